@@ -1,0 +1,73 @@
+-- What is left to list where a loop stands; each turn takes one line off its front. What carries both loops of the lister.
+use Prim.Native.Nat.{ℕ, _+_, _-_, _≤_, _<_}
+use mathlib.Core.Path.{_≡_, refl, sym, ap, _∙_}
+use mathlib.Core.List.{List, [], _∷_, _++_, append-assoc, append-nil}
+use mathlib.Core.Bool.{cond}
+use native.Mathlib.Nat.{sub-zero}
+use native.Mathlib.Omega.{arith}
+use borrow.Author.Tests.{eq-eqb, ne-eqb, eqb-true, eqb-false}
+use lib.Dec.{eqb}
+use lib.ListN.{length, drop, length-append}
+use Rattle.octets.proofs.Order.{either}
+use Rattle.packet.specs.Space.{version}
+use Rattle.packet.specs.Reading.{isSpace, refusal, reading, size}
+use Rattle.packet.specs.Told.{told, numberOf, sizeOf}
+use Rattle.packet.specs.declared.Packet.{Packet}
+use Rattle.packet.specs.declared.Packet.the-variants.{Space, Encapsulation, Refused}
+use Rattle.packet.proofs.Answers.{Says, says, number-read, size-read}
+use Rattle.walk.specs.Walk.{placesFrom, places, end, stop}
+use Rattle.walk.proofs.Going.{Going, Turn, Stopped, turned, at-end, at-refusal}
+use Rattle.listing.specs.Listing.{line, packetLine, packetLines, refusedLine, endLine, listing}
+use Rattle.listing.specs.Lines.{lineOf}
+
+-- the lines from index at on, with n packets behind it
+abbrev pub left : List ℕ → ℕ → ℕ → List ℕ
+left s at n = packetLines s (placesFrom (length s - n) s at) ++ refusedLine (end s) (stop s) ++ endLine (end s) (length (places s))
+
+pub left-all : (s : List ℕ) → left s 0 0 ≡ listing s
+unfolding listing places
+left-all s = rw sub-zero
+
+-- the line of a packet that was read is the definition's
+read-line : (at : ℕ) (p : Packet) (s : List ℕ) → Says p s → refusal s ≡ 0 → lineOf at p ≡ packetLine at s
+unfolding packetLine
+read-line at (Space t x a f c n) s w e = simp (eq-eqb (version s) 0 (w .1), w .4, w .5, w .6, w .7)
+read-line at (Encapsulation p u x h n) s w e = simp (ne-eqb (version s) 0 (w .1), w .2, w .4, w .5, w .6)
+read-line at (Refused k) s w e = absurd (omega arith)
+
+-- and so is the line of a refusal
+refused-line : (at : ℕ) (p : Packet) (s : List ℕ) → Says p s → (refusal s ≡ 0 → ⊥) → lineOf at p ≡ refusedLine at (refusal s)
+unfolding refusedLine
+refused-line at (Space t x a f c n) s w u = absurd (u (w .0))
+refused-line at (Encapsulation p u′ x h n) s w u = absurd (u (w .0))
+refused-line at (Refused k) s w u = rw (w .0) (simp (ne-eqb k 0 (λ z. u (w .0 ∙ z))))
+
+module _ (s : List ℕ) (at n : ℕ) (g : Going s at n) where
+  -- at the end only the last line is left
+  pub left-end : length s ≤ at → left s at n ≡ endLine at n
+  unfolding packetLines refusedLine
+  left-end h = let e = at-end s at n g h in simp (e .no-more, e .stop-here, e .end-here, e .all-counted)
+
+  -- what is read at index at, as the code has it: k is what `number_of` gave of it, z what `size_of` did
+  module _ (here : at < length s) (p : Packet) (e : told p ≡ reading (drop at s)) {k : ℕ} (number : k ≡ numberOf p) where
+    is : k ≡ refusal (drop at s)
+    is = number-read p (drop at s) e number
+
+    pub left-more : k ≡ 0 → {z : ℕ} → z ≡ sizeOf p → Turn s at n z × (left s at n ≡ lineOf at p ++ left s (at + z) (n + 1))
+    unfolding packetLines
+    left-more none size =
+        let r = sym is ∙ none in
+        let t = turned s at n g r (size-read p (drop at s) e number none size) in
+        (t, simp (t .place, ← (read-line at p (drop at s) (says p (drop at s) e) r), append-assoc))
+
+    pub left-refused : (k ≡ 0 → ⊥) → left s at n ≡ lineOf at p ++ endLine at n
+    unfolding packetLines
+    left-refused u =
+        let v : refusal (drop at s) ≡ 0 → ⊥ = λ z. u (is ∙ z) in
+        let t = at-refusal s at n g v here is in
+        simp (t .no-more, t .stop-here, t .end-here, t .all-counted, is, ← (refused-line at p (drop at s) (says p (drop at s) e) v))
+
+  -- whatever is read, its line comes first
+  pub left-begins : at < length s → (p : Packet) → told p ≡ reading (drop at s) → (rest : List ℕ) × (left s at n ≡ lineOf at p ++ rest)
+  left-begins here p e =
+      either (eqb (numberOf p) 0) (λ t. (_, left-more here p e refl (eqb-true _ _ t) refl .1)) (λ f. (_, left-refused here p e refl (eqb-false _ _ f)))

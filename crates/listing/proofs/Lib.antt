@@ -1,0 +1,7 @@
+pub mod Puts
+pub mod Decimal
+pub mod Numbers
+pub mod Short
+pub mod Left
+pub mod Underway
+pub mod Room

@@ -1,0 +1,73 @@
+-- Text that is put after text is one text put once: what carries every line.
+use Prim.Native.Nat.{ℕ, _+_, _-_, _≤_}
+use mathlib.Core.Path.{_≡_, refl, sym, ap, _∙_}
+use mathlib.Core.List.{List, [], _∷_, _++_, append-assoc, append-nil}
+use native.Mathlib.Omega.{arith}
+use native.Mathlib.Nat.{add-zero, add-assoc}
+use borrow.Rule.Slice.PartMut.{putMid, midOf, post-is}
+use lib.ListN.{length, take, drop, length-append, length-take, length-drop, take-append-drop, drop-of-length-le}
+use lib.Seq.{take-length, length-take-le, take-at, drop-at, drop-append-add, drop-drop, drop-append-seam}
+use Rattle.listing.specs.Text.{put}
+
+-- a copy into the part from at on puts the text there
+pub copied : (d text ys : List ℕ) (at : ℕ) → at + length text ≤ length d
+    → ys ≡ take (length text) text ++ drop (length text) (midOf at (at + length text - at) d)
+    → putMid at (at + length text - at) d ys ≡ put d at text
+unfolding put
+copied d text ys at h e =
+    let n : length (midOf at (at + length text - at) d) ≤ length text = simp (length-take, length-drop) (omega arith) in
+    rw (e, take-length text, drop-of-length-le (midOf at (at + length text - at) d) n, append-nil, post-is at (at + length text) d (omega arith), append-assoc)
+
+-- the length stays
+pub put-length : (d : List ℕ) (at : ℕ) (text : List ℕ) → at + length text ≤ length d → length (put d at text) ≡ length d
+unfolding put
+put-length d at text h = simp (length-append, length-take, length-drop) (omega arith)
+
+-- what was put, and what lies after it
+pub take-put : (d : List ℕ) (at : ℕ) (text : List ℕ) → at + length text ≤ length d → take (at + length text) (put d at text) ≡ take at d ++ text
+unfolding put
+take-put d at text h =
+    take-at (take at d ++ text) (drop (at + length text) d) (at + length text) (simp (length-append, length-take) (omega arith))
+
+pub drop-put : (d : List ℕ) (at : ℕ) (text : List ℕ) → at + length text ≤ length d → drop (at + length text) (put d at text) ≡ drop (at + length text) d
+unfolding put
+drop-put d at text h =
+    drop-at (take at d ++ text) (drop (at + length text) d) (at + length text) (simp (length-append, length-take) (omega arith))
+
+joined : (d e : List ℕ) (at : ℕ) (a b : List ℕ) → take (at + length a) e ≡ take at d ++ a
+    → drop (at + length a + length b) e ≡ drop (at + length a + length b) d → put e (at + length a) b ≡ put d at (a ++ b)
+unfolding put
+joined d e at a b t r = rw (t, r) (simp (length-append, append-assoc, add-assoc))
+
+-- one text after another
+pub put-put : (d : List ℕ) (at : ℕ) (a b : List ℕ) → at + length a + length b ≤ length d → put (put d at a) (at + length a) b ≡ put d at (a ++ b)
+put-put d at a b h =
+    let t = take-put d at a (omega arith) in
+    let r : drop (at + length a + length b) (put d at a) ≡ drop (at + length a + length b) d =
+    sym (drop-drop (length b) (at + length a) (put d at a)) ∙ ap (drop (length b)) (drop-put d at a (omega arith)) ∙ drop-drop (length b) (at + length a) d in
+    joined d (put d at a) at a b t r
+
+-- ---- in steps: text was put into d from index at on, which gave out, and `to` is the place after it. This is what each `put` ensures
+abbrev pub Wrote : List ℕ → ℕ → List ℕ → List ℕ → ℕ → Type 0
+Wrote d at text out to = (to ≡ at + length text) × (out ≡ put d at text)
+
+abbrev pub Fits : List ℕ → ℕ → List ℕ → Type 0
+Fits d at text = at + length text ≤ length d
+
+pub nothing : (d : List ℕ) (at : ℕ) → Wrote d at [] d at
+unfolding put
+nothing d at = (sym (add-zero at), rw (add-zero, append-nil) (sym (take-append-drop at d)))
+
+module _ (d : List ℕ) (at : ℕ) (a b : List ℕ) (f : Fits d at (a ++ b)) where
+  both : at + length a + length b ≤ length d
+  both = omega (arith, length-append a b)
+
+  -- there is room for the first part, and then for the second
+  pub room : Fits d at a
+  room = omega (arith, both)
+
+  pub room-after : {out : List ℕ} {to : ℕ} → Wrote d at a out to → Fits out to b
+  room-after (p, e) = rw (p, e, put-length d at a room) both
+
+  pub more : {out out′ : List ℕ} {to to′ : ℕ} → Wrote d at a out to → Wrote out to b out′ to′ → Wrote d at (a ++ b) out′ to′
+  more (p, e) (q, g) = (omega (arith, length-append a b), g ∙ rw (p, e) (put-put d at a b both))

@@ -1,0 +1,101 @@
+-- No text for a recording is longer than 1,310,752 octets: within 65,536 octets each packet has at most 20 octets of text for each octet of
+-- its own, and the last two lines have 16 each.
+use Prim.Native.Nat.{ℕ, zero, suc, _+_, _*_, _-_, _^_, _≤_, _<_}
+use mathlib.Core.Path.{_≡_, refl, sym, ap, _∙_}
+use mathlib.Core.List.{List, [], _∷_, _++_}
+use mathlib.Core.Bool.{Bool, true, false, cond}
+use native.Mathlib.Omega.{arith}
+use borrow.Author.Tests.{eq-eqb, ne-eqb, eqb-true, eqb-false, leb-true}
+use lib.Dec.{eqb, leb}
+use lib.ListN.{length, drop, length-append, length-drop}
+use Rattle.octets.proofs.Order.{either}
+use Rattle.packet.specs.Space.{version, apid, flags, count, dataOctets}
+use Rattle.packet.specs.Encapsulation.{protocol, extension, encapHeader, encapSize}
+use Rattle.packet.specs.Reading.{refusal, size}
+use Rattle.packet.specs.Causes.{Whole, space, encapsulation}
+use Rattle.packet.proofs.Exactly.{exactly, exactly-whole, numbered}
+use Rattle.packet.proofs.Within.{HeaderIs, one, two, four, eight, header-is}
+use Rattle.walk.specs.Walk.{next, places, end, stop}
+use Rattle.walk.proofs.Rises.{Run, rises}
+use Rattle.listing.specs.Text.{ascii, decimal, number, numbers}
+use Rattle.listing.specs.Listing.{tail, line, packetLine, packetLines, refusedLine, endLine, listing, recordingText}
+use Rattle.listing.proofs.Short.{digits-below}
+
+-- a number below 10 ^ (k + 1), after a blank
+number-below : (k n : ℕ) → n < 10 ^ suc k → length (number n) ≤ k + 2
+unfolding number
+number-below k n h = omega (arith, digits-below k n h)
+
+-- a line with four numbers, by their digits
+line-of-four : (at : ℕ) (word : List ℕ) (a b c d : ℕ) (i j k l : ℕ) → at < 10 ^ 5 → length word ≡ 6
+    → a < 10 ^ suc i → b < 10 ^ suc j → c < 10 ^ suc k → d < 10 ^ suc l
+    → length (line at word (a ∷ b ∷ c ∷ d ∷ [])) ≤ 20 + (i + j + k + l)
+unfolding line tail numbers
+line-of-four at word a b c d i j k l h w p q r s =
+    simp length-append
+    (omega (arith, w, digits-below 4 at h, number-below i a p, number-below j b q, number-below k c r, number-below l d s))
+
+-- 20 octets of text for each octet of a packet: just so for an Encapsulation Packet of one octet, whose fields are digits
+abbrev Roomy : ℕ → List ℕ → Type 0
+Roomy at s = length (line at (ascii " encap") (protocol s ∷ extension s ∷ encapHeader s ∷ (encapSize s - encapHeader s) ∷ [])) ≤ 20 * encapSize s
+
+module _ (at : ℕ) (s : List ℕ) (h : at < 10 ^ 5) (n : length s ≤ 65536) where
+  encap-longer : 2 ≤ encapHeader s → encapHeader s < 10 → encapHeader s ≤ encapSize s → encapSize s ≤ length s → Roomy at s
+  encap-longer two≤ small l w =
+      omega (arith, line-of-four at (ascii " encap") (protocol s) (extension s) (encapHeader s) (encapSize s - encapHeader s) 0 1 0 4 h refl (omega arith) (omega arith) small (omega arith))
+
+  encap-room : HeaderIs (encapHeader s) → encapHeader s ≤ encapSize s → encapSize s ≤ length s → Roomy at s
+  encap-room (one e) l w =
+      let z : encapSize s ≡ 1 = simp e in
+      let x : extension s ≡ 0 = simp e in
+      omega (arith, z, line-of-four at (ascii " encap") (protocol s) (extension s) (encapHeader s) (encapSize s - encapHeader s) 0 0 0 0 h refl (omega arith) (omega (arith, x)) (omega arith) (omega (arith, z)))
+  encap-room (two e) l w = encap-longer (omega arith) (omega arith) l w
+  encap-room (four e) l w = encap-longer (omega arith) (omega arith) l w
+  encap-room (eight e) l w = encap-longer (omega arith) (omega arith) l w
+
+  packet-room : Whole s → length (packetLine at s) ≤ 20 * size s
+  unfolding packetLine size
+  packet-room (space (t, i) w) =
+      simp (eq-eqb (version s) 0 (t .0 .1))
+      (omega (arith, line-of-four at (ascii " space") (apid s) (flags s) (count s) (dataOctets s) 3 0 4 4 h refl (omega arith) (omega arith) (omega arith) (omega arith)))
+  packet-room (encapsulation ((((t, m), l), o), e) w) =
+      simp (ne-eqb (version s) 0 (λ z. omega (arith, t .0 .1))) (encap-room (header-is s) l w)
+
+-- so the lines of a run have 20 for each of its octets, and there are no more packets than octets
+run-room : (s ps : List ℕ) (at e : ℕ) → length s ≤ 65536 → e ≤ length s → Run s at ps e
+    → (length (packetLines s ps) + 20 * at ≤ 20 * e) × (length ps + at ≤ e)
+unfolding packetLines
+run-room s [] at e n h r = (omega (arith, r), omega (arith, r))
+run-room s (p ∷ ps) at e n h (same, read, rise, run) =
+    let more = run-room s ps (next s at) e n h run in
+    let one = packet-room at (drop at s) (omega (arith, rise, more .1)) (omega (arith, length-drop at s)) (exactly-whole (drop at s) .0 read) in
+    rw same (omega (arith, more, one, length-append (packetLine at (drop at s)) (packetLines s ps)), omega (arith, rise, more .1))
+
+refusal-small : (s : List ℕ) → refusal s ≤ 7
+refusal-small s = either (eqb (refusal s) 0) (λ t. omega (arith, eqb-true (refusal s) 0 t)) (λ f. omega (arith, numbered (exactly s (refusal s) (omega (arith, eqb-false (refusal s) 0 f)) .0 refl)))
+
+refused-room : (at k : ℕ) → at < 10 ^ 5 → k < 10 → (b : Bool) → length (cond b [] (line at (ascii " refused") (k ∷ []))) ≤ 16
+unfolding line tail numbers
+refused-room at k h s true = omega arith
+refused-room at k h s false = simp length-append (omega (arith, digits-below 4 at h, number-below 0 k s))
+
+end-room : (at n : ℕ) → at < 10 ^ 5 → n < 10 ^ 5 → length (endLine at n) ≤ 16
+unfolding endLine tail numbers
+end-room at n h k = simp length-append (omega (arith, number-below 4 at h, number-below 4 n k))
+
+stop-small : (s : List ℕ) (b : Bool) → cond b 0 (refusal (drop (end s) s)) ≤ 7
+stop-small s true = omega arith
+stop-small s false = refusal-small (drop (end s) s)
+
+listing-room : (s : List ℕ) → length s ≤ 65536 → length (listing s) ≤ 1310752
+unfolding listing refusedLine stop
+listing-room s n =
+    let r = rises s in
+    let l = run-room s (places s) 0 (end s) n (r .1) (r .0) in
+    let k = stop-small s (eqb (end s) (length s)) in
+    simp length-append
+    (omega (arith, l, r .1, refused-room (end s) (stop s) (omega (arith, r .1)) (omega (arith, k)) (eqb (stop s) 0), end-room (end s) (length (places s)) (omega (arith, r .1)) (omega (arith, l, r .1))))
+
+pub room : (s : List ℕ) → length (recordingText s) ≤ 1310752
+unfolding recordingText
+room s = either (leb (length s) 65536) (λ t. simp t (listing-room s (leb-true _ _ t))) (λ f. simp f (omega arith))

@@ -1,0 +1,21 @@
+-- The digits that the kit spells are n in decimal, by the law `spelled`.
+use mathlib.Core.Path.{_≡_, _∙_}
+use lib.ListN.{take}
+use native.Mathlib.Omega.{arith}
+use Rattle.listing.specs.Text.{decimal}
+use Rattle.listing.proofs.Decimal.{spelled}
+use borrow.Author.Needs.{needs}
+use Rattle.listing.proofs.text.put_decimal.Statement.{statement}
+use Rattle.listing.proofs.text.put_decimal.Tie as tie
+
+text : (c : tie.After-decimal) → take (c .decimal .result) (c .decimal .last .1 .0) ≡ decimal (c .before .before .before .args .n)
+text c = c .decimal .ensures .1 .1 ∙ spelled (c .decimal .result) (c .before .before .before .args .n) (c .decimal .ensures .1 .0)
+
+put-requires : tie.Need-put-requires
+put-requires c κs = rw (text (c .before .before)) (c .before .before .before .before .before .pre)
+
+returns : tie.Need-returns
+returns c = rw (← (text (c .before .before .before .before .before))) (c .before .before .put .ensures)
+
+pub put-decimal-spec : {M : Type 1} → statement M
+put-decimal-spec = tie.close (tie.spec (λ c κs. search needs) (λ c. search needs) (λ c. search needs) put-requires (λ c. search needs) returns)

@@ -1,0 +1,18 @@
+-- No octets and an unknown version are refused here; the rest is what the two kinds' readers tell.
+use native.Mathlib.Omega.{arith}
+use borrow.Author.Needs.{needs}
+use Rattle.packet.specs.Causes.{no-octets, no-version}
+use Rattle.packet.proofs.Exactly.{refused}
+use Rattle.packet.proofs.read_packet.Statement.{statement}
+use Rattle.packet.proofs.read_packet.Tie as tie
+
+returns : tie.Need-returns
+returns c = refused (no-octets (c .if1 .taken))
+
+returns-4 : tie.Need-returns-4
+returns-4 c =
+    let some = c .before .before .before .if1 .left in
+    refused (no-version (omega (arith, some)) (c .before .if2 .left) (c .if3 .left))
+
+pub read-packet-spec : {M : Type 1} → statement M
+read-packet-spec = tie.close (tie.spec returns (λ c. search needs) (λ c κs. search needs) (λ c. search needs) (λ c κs. search needs) (λ c. search needs) returns-4)

@@ -1,0 +1,5 @@
+pub mod Space
+pub mod Encapsulation
+pub mod Reading
+pub mod Told
+pub mod Causes

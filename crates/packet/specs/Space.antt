@@ -1,0 +1,39 @@
+-- The Space Packet. Six header octets: version 3 bits (000), type 1, secondary header flag 1, APID 11, sequence flags 2, count 14,
+-- length 16.
+use Prim.Native.Nat.{ℕ, _+_, _/_, _%_}
+use mathlib.Core.List.{List}
+use mathlib.Core.Bool.{Bool, _&&_}
+use lib.Dec.{eqb}
+use Rattle.octets.specs.Octets.{octet, be16}
+
+abbrev pub version : List ℕ → ℕ
+version s = octet s 0 / 32 % 8
+
+abbrev pub packetType : List ℕ → ℕ
+packetType s = octet s 0 / 16 % 2
+
+abbrev pub secondary : List ℕ → ℕ
+secondary s = octet s 0 / 8 % 2
+
+abbrev pub apid : List ℕ → ℕ
+apid s = be16 s 0 % 2048
+
+abbrev pub flags : List ℕ → ℕ
+flags s = octet s 2 / 64 % 4
+
+abbrev pub count : List ℕ → ℕ
+count s = be16 s 2 % 16384
+
+abbrev pub spaceHeader : ℕ
+spaceHeader = 6
+
+-- the length is the octets of the data field minus 1
+abbrev pub dataOctets : List ℕ → ℕ
+dataOctets s = be16 s 4 + 1
+
+abbrev pub spaceSize : List ℕ → ℕ
+spaceSize s = spaceHeader + dataOctets s
+
+-- APID 2047 is idle and never has the secondary header flag
+abbrev pub flaggedIdle : List ℕ → Bool
+flaggedIdle s = eqb (apid s) 2047 && eqb (secondary s) 1

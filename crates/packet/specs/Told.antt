@@ -1,0 +1,29 @@
+-- What the reader's enum tells, as the paper's number and values.
+use Prim.Native.Nat.{ℕ, _+_}
+use mathlib.Core.List.{List, [], _∷_}
+use Rattle.packet.specs.declared.Packet.{Packet}
+use Rattle.packet.specs.declared.Packet.the-variants.{Space, Encapsulation, Refused}
+
+-- no refusal (0), the version and the fields; or the number of the refusal
+abbrev pub told : Packet → List ℕ
+told (Space packetType secondary apid flags count octets) = 0 ∷ 0 ∷ packetType ∷ secondary ∷ apid ∷ flags ∷ count ∷ octets ∷ []
+told (Encapsulation protocol user extension header octets) = 0 ∷ 7 ∷ protocol ∷ user ∷ extension ∷ header ∷ octets ∷ []
+told (Refused number) = number ∷ []
+
+-- the refusal, or 0
+abbrev pub numberOf : Packet → ℕ
+numberOf (Space t x a f c n) = 0
+numberOf (Encapsulation p u x h n) = 0
+numberOf (Refused number) = number
+
+-- octets of the whole packet that was read, or 0
+abbrev pub sizeOf : Packet → ℕ
+sizeOf (Space t x a f c n) = 6 + n
+sizeOf (Encapsulation p u x h n) = h + n
+sizeOf (Refused number) = 0
+
+-- octets of its header, or 0
+abbrev pub headerOf : Packet → ℕ
+headerOf (Space t x a f c n) = 6
+headerOf (Encapsulation p u x h n) = h
+headerOf (Refused number) = 0

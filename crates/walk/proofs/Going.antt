@@ -1,0 +1,106 @@
+-- What carries every loop over a run of packets: where the loop stands, the walk over all octets is the walk over the rest.
+use Prim.Native.Nat.{ℕ, zero, suc, _+_, _-_, _≤_, _<_}
+use mathlib.Core.Path.{_≡_, refl, sym, ap, _∙_}
+use mathlib.Core.List.{List, [], _∷_}
+use mathlib.Core.Bool.{Bool, true, false, cond}
+use native.Mathlib.Nat.{sub-zero, zero-add}
+use native.Mathlib.Numerals.{add-one}
+use native.Mathlib.Omega.{arith}
+use borrow.Author.Tests.{eq-eqb, ne-eqb}
+use lib.ListN.{length, drop, length-drop, drop-of-length-le}
+use Rattle.packet.specs.Reading.{refusal, size}
+use Rattle.packet.specs.Causes.{no-octets}
+use Rattle.packet.proofs.Exactly.{gives}
+use Rattle.packet.proofs.Within.{within}
+use Rattle.walk.specs.Walk.{next, placesFrom, endFrom, places, end, stop}
+
+-- a loop over s stands at index at, with n packets behind it
+pub record Going (s : List ℕ) (at n : ℕ) : Type 0 where
+  pub behind : n ≤ at
+  pub inside : at ≤ length s
+  pub same-end : end s ≡ endFrom (length s - n) s at
+  pub same-count : length (places s) ≡ n + length (placesFrom (length s - n) s at)
+
+-- a turn that reads z octets at index at
+pub record Turn (s : List ℕ) (at n z : ℕ) : Type 0 where
+  pub rises : at < at + z
+  pub within : at + z ≤ length s
+  pub going : Going s (at + z) (n + 1)
+  pub place : placesFrom (length s - n) s at ≡ at ∷ placesFrom (length s - (n + 1)) s (at + z)
+
+-- the walk stops at index at after n packets, with k
+pub record Stopped (s : List ℕ) (at n k : ℕ) : Type 0 where
+  pub end-here : end s ≡ at
+  pub all-counted : length (places s) ≡ n
+  pub stop-here : stop s ≡ k
+  pub no-more : placesFrom (length s - n) s at ≡ []
+
+module _ (s : List ℕ) where
+  pub at-start : Going s 0 0
+  unfolding end places
+  at-start = record { behind = omega arith; inside = omega arith; same-end = rw sub-zero; same-count = rw (sub-zero, zero-add) }
+
+  -- nothing is read at the end
+  pub past-end : (at : ℕ) → length s ≤ at → refusal (drop at s) ≡ 1
+  past-end at h = gives (no-octets (ap length (drop-of-length-le s h)))
+
+  module _ (at n : ℕ) (g : Going s at n) where
+    -- one packet more is read
+    module _ (e : refusal (drop at s) ≡ 0) where
+      pub moves : (at < next s at) × (next s at ≤ length s)
+      moves = let b = within (drop at s) e in omega (arith, b, length-drop at s)
+
+      turn : length s - n ≡ suc (length s - (n + 1))
+      turn = omega (arith, moves)
+
+      pub place : placesFrom (length s - n) s at ≡ at ∷ placesFrom (length s - (n + 1)) s (next s at)
+      unfolding placesFrom
+      place = rw turn (simp (eq-eqb _ _ e))
+
+      pub goes-on : Going s (next s at) (n + 1)
+      unfolding endFrom
+      goes-on =
+          let m = moves in
+          record {
+            behind = omega (arith, g .behind);
+            inside = m .1;
+            same-end = g .same-end ∙ rw turn (simp (eq-eqb _ _ e));
+            same-count = omega (arith, g .same-count, ap length place);
+          }
+
+      -- the turn as code has it, with z for the size that was read
+      pub turned : {z : ℕ} → z ≡ size (drop at s) → Turn s at n z
+      turned q = rw q (record { rises = moves .0; within = moves .1; going = goes-on; place = place })
+
+    -- no packet more is read
+    module _ (u : refusal (drop at s) ≡ 0 → ⊥) where
+      no-place : (most : ℕ) → placesFrom most s at ≡ []
+      unfolding placesFrom
+      no-place zero = refl
+      no-place (suc most) = simp (ne-eqb _ _ u)
+
+      no-end : (most : ℕ) → endFrom most s at ≡ at
+      unfolding endFrom
+      no-end zero = refl
+      no-end (suc most) = simp (ne-eqb _ _ u)
+
+      stopped : {k : ℕ} → stop s ≡ k → Stopped s at n k
+      stopped e = record {
+        end-here = g .same-end ∙ no-end _;
+        all-counted = omega (arith, g .same-count, ap length (no-place (length s - n)));
+        stop-here = e;
+        no-more = no-place _;
+      }
+
+      here : end s ≡ at
+      here = g .same-end ∙ no-end _
+
+      pub at-refusal : at < length s → {k : ℕ} → k ≡ refusal (drop at s) → Stopped s at n k
+      unfolding stop
+      at-refusal h q = stopped (rw here (simp (ne-eqb at (length s) (λ e. omega arith)) (sym q)))
+
+    pub at-end : length s ≤ at → Stopped s at n 0
+    unfolding stop
+    at-end h =
+        let u : refusal (drop at s) ≡ 0 → ⊥ = λ e. omega (arith, past-end at h) in
+        stopped u (rw (here u) (simp (eq-eqb at (length s) (omega (arith, g .inside)))))

@@ -1,0 +1,41 @@
+# The command `./branmuslin`: each wrong call gets one clear line on standard error, nothing on standard output, and a status that isn't 0.
+refuses() {
+    local line=$1 status
+    shift
+    "$@" >"$work/out" 2>"$work/err" </dev/null
+    status=$?
+    cat "$work/err"
+    [ "$status" -ne 0 ] && [ ! -s "$work/out" ] && [ "$(wc -l <"$work/err")" -eq 1 ] && grep -q "$line" "$work/err"
+}
+
+helps() { ./branmuslin help | grep -q 'list \[FILE\]'; }
+
+runs_from_elsewhere() { (cd / && "$OLDPWD/branmuslin" list "$OLDPWD/samples/paper.bin") | cmp - samples/paper.txt; }
+
+# A second run must not prove anything again.
+starts_at_once() { ./branmuslin list samples/paper.bin >/dev/null && [ -z "$(./branmuslin list samples/paper.bin 2>&1 >/dev/null)" ]; }
+
+# In a copy with nothing built and no rt on the path.
+no_toolchain() {
+    rm -rf "$work/copy" && mkdir "$work/copy" && cp -R branmuslin crates crates.txt samples "$work/copy" &&
+        refuses 'toolchain' env PATH=/usr/bin:/bin "$work/copy/branmuslin" list "$work/copy/samples/paper.bin"
+}
+
+if [ -x /usr/bin/rt ] || [ -x /bin/rt ]; then
+    echo 'note  rt stands in /usr/bin: a missing toolchain is not tried'
+else
+    check 'branmuslin: a missing toolchain' no_toolchain
+fi
+check 'branmuslin help' helps
+check 'branmuslin: no word' refuses 'which word' ./branmuslin
+check 'branmuslin: an unknown word' refuses "unknown word 'lits'" ./branmuslin lits
+check 'branmuslin list: a missing file' refuses 'no such file: nowhere' ./branmuslin list nowhere
+check 'branmuslin list: a folder' refuses 'folder' ./branmuslin list samples
+check 'branmuslin list: two files' refuses 'one file' ./branmuslin list samples/paper.bin samples/every.bin
+check 'branmuslin: from another folder' runs_from_elsewhere
+check 'branmuslin: later runs start at once' starts_at_once
+if command -v shellcheck >/dev/null; then
+    check 'branmuslin: shellcheck' shellcheck -s sh branmuslin
+else
+    echo 'note  shellcheck is not installed: skipped'
+fi

@@ -1,0 +1,12 @@
+# The independent second program (tests/second): its own tests, then compared with the programs `cases` and `list`.
+second=$CARGO_TARGET_DIR/release/second
+
+second_cases() {
+    "$second" cases >"$work/second-cases" && target/bin/cases >"$work/cases" && cmp "$work/second-cases" "$work/cases" &&
+        cmp "$work/second-cases" crates/cases/stdout
+}
+
+check 'the second program builds' cargo build --quiet --release --offline --manifest-path tests/second/Cargo.toml
+check "the second program's own tests" cargo test --quiet --release --offline --manifest-path tests/second/Cargo.toml
+check 'cases: the second program prints the same' second_cases
+check 'list: the second program lists thousands of generated inputs alike' "$second" compare target/bin/list

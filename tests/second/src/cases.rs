@@ -1,0 +1,118 @@
+//! The paper's cases, and some more, as lines to lay beside the intake's own.
+
+use crate::hex;
+use crate::lister::listing;
+use crate::reader::{read, Packet, Refusal};
+
+/// The paper's starred reading cases. They are proved elsewhere and so not
+/// printed, but they are compared and tested here all the same.
+pub const STARRED: &[&str] = &[
+    "00 2A C0 05 00 01 AA BB",
+    "00 2A C0 05 00 01 AA",
+    "0F FF C0 00 00 00 00",
+    "20",
+    "",
+    "E0",
+    "E4",
+    "E9 02",
+    "E9 05 11 22 33",
+    "EB 00 00 00 00 01 00 07",
+];
+
+/// The paper's reading cases without a star, then those where it is silent.
+pub const READING: &[&str] = &[
+    "E1 02",
+    "E9 01",
+    "FA 03 00 05 55",
+    "F9 03 00",
+    "EA 13 00 05 55",
+    "EB 00 00 00 00 01 00 06",
+    "0F FF",
+    "F8",
+    "F9 01",
+    "FA 03 00 04",
+    "EA 00 00 03",
+    "EB 00 00 01 00 00 00 09 77",
+    "EA 40 00 06 12 34",
+    "18 2A 40 07 00 00 99",
+    "1F FE FF FF 00 02 01 02 03 04",
+];
+
+pub const LISTING: &[&str] = &["00 2A C0 05 00 01 AA BB E0 E9 05 11 22 33 00 2A", "", "20"];
+
+/// All cases with their answers, each line with its newline.
+pub fn text() -> String {
+    let reading = READING.iter().map(|case| reading_case(&hex::octets(case)));
+    let listing = LISTING.iter().map(|case| listing_case(&hex::octets(case)));
+    reading.chain(listing).collect()
+}
+
+fn reading_case(octets: &[u8]) -> String {
+    format!("read{}: {}\n", after_blanks(octets), answer(&read(octets)))
+}
+
+fn listing_case(octets: &[u8]) -> String {
+    format!("list{}:\n{}", after_blanks(octets), listing(octets))
+}
+
+fn answer(answer: &Result<Packet<'_>, Refusal>) -> String {
+    match answer {
+        Ok(Packet::Space(p)) => {
+            let (octets, data) = (p.data.len(), after_blanks(p.data));
+            let fields = [p.packet_type, p.secondary, p.apid, p.flags, p.count];
+            format!(
+                "space {} {octets} data{data}",
+                fields.map(|f| f.to_string()).join(" ")
+            )
+        }
+        Ok(Packet::Encap(p)) => {
+            let (octets, content) = (p.content.len(), after_blanks(p.content));
+            let fields = [p.protocol, p.user, p.extension, p.header_octets as u32];
+            format!(
+                "encap {} {octets} data{content}",
+                fields.map(|f| f.to_string()).join(" ")
+            )
+        }
+        Err(Refusal(number)) => format!("refused {number} data"),
+    }
+}
+
+/// A blank before each octet, so that no octets leave no trailing blank.
+fn after_blanks(octets: &[u8]) -> String {
+    octets.iter().map(|octet| format!(" {octet:02x}")).collect()
+}
+
+#[cfg(test)]
+mod tests {
+    use super::*;
+
+    fn reads(text: &str, expected: &str) {
+        assert_eq!(reading_case(&hex::octets(text)), format!("{expected}\n"));
+    }
+
+    #[test]
+    fn reading_lines() {
+        reads(
+            "FA 03 00 05 55",
+            "read fa 03 00 05 55: encap 6 0 3 4 1 data 55",
+        );
+        reads("F9 03 00", "read f9 03 00: refused 7 data");
+        reads("E1 02", "read e1 02: encap 0 0 0 2 0 data");
+        reads(
+            "00 2A C0 05 00 01 AA BB",
+            "read 00 2a c0 05 00 01 aa bb: space 0 0 42 3 5 2 data aa bb",
+        );
+    }
+
+    #[test]
+    fn listing_lines() {
+        assert_eq!(listing_case(&[]), "list:\nend 0 0\n");
+        assert_eq!(listing_case(&[0x20]), "list 20:\n0 refused 2\nend 0 0\n");
+    }
+
+    #[test]
+    fn as_many_cases_as_were_named() {
+        assert_eq!(text().matches("read ").count(), 15);
+        assert_eq!(text().matches("list").count(), 3);
+    }
+}
