@@ -10,6 +10,36 @@ refuses() {
 
 helps() { ./branmuslin help | grep -q 'list \[FILE\]'; }
 
+runs_through_links() {
+    ln -sf "$PWD/branmuslin" "$work/one" && ln -sf one "$work/two" && "$work/two" list samples/paper.bin | cmp - samples/paper.txt
+}
+
+odd_names() {
+    cp samples/paper.bin "$work/a name" && cp samples/paper.bin "$work/-x" && ./branmuslin list "$work/a name" | cmp - samples/paper.txt &&
+        (cd "$work" && "$OLDPWD/branmuslin" list -- -x) | cmp - samples/paper.txt
+}
+
+# A listing that can't be written, and a recording that can't be read, are told.
+full_output() {
+    ./branmuslin list samples/paper.bin >/dev/full 2>"$work/err"
+    [ $? -eq 1 ] && [ "$(wc -l <"$work/err")" -eq 1 ] && grep 'standard output' "$work/err"
+}
+
+folder_as_input() {
+    ./branmuslin list <samples >"$work/out" 2>"$work/err"
+    [ $? -eq 1 ] && [ ! -s "$work/out" ] && [ "$(wc -l <"$work/err")" -eq 1 ] && grep 'standard input' "$work/err"
+}
+
+first_line_only() { [ "$(./branmuslin list samples/every.bin | head -n 1)" = '0 space 42 3 16382 21' ]; }
+
+# With a toolchain that proves nothing: one clear line after the one that says what goes on.
+failed_build() {
+    rm -rf "$work/copy" && mkdir -p "$work/copy/bin" && cp -R branmuslin crates crates.txt samples "$work/copy" &&
+        printf '#!/bin/sh\nexit 1\n' >"$work/copy/bin/rt" && chmod +x "$work/copy/bin/rt"
+    PATH="$work/copy/bin:$PATH" "$work/copy/branmuslin" list samples/paper.bin >"$work/out" 2>"$work/err"
+    [ $? -eq 1 ] && [ ! -s "$work/out" ] && [ "$(wc -l <"$work/err")" -eq 2 ] && grep 'was not proved or built' "$work/err"
+}
+
 runs_from_elsewhere() { (cd / && "$OLDPWD/branmuslin" list "$OLDPWD/samples/paper.bin") | cmp - samples/paper.txt; }
 
 # A second run must not prove anything again.
@@ -33,6 +63,12 @@ check 'branmuslin list: a missing file' refuses 'no such file: nowhere' ./branmu
 check 'branmuslin list: a folder' refuses 'folder' ./branmuslin list samples
 check 'branmuslin list: two files' refuses 'one file' ./branmuslin list samples/paper.bin samples/every.bin
 check 'branmuslin: from another folder' runs_from_elsewhere
+check 'branmuslin: through links' runs_through_links
+check 'branmuslin: odd file names' odd_names
+check 'branmuslin: an output that is full' full_output
+check 'branmuslin: a folder as standard input' folder_as_input
+check 'branmuslin: an output that closes early' first_line_only
+check 'branmuslin: a build that fails' failed_build
 check 'branmuslin: later runs start at once' starts_at_once
 if command -v shellcheck >/dev/null; then
     check 'branmuslin: shellcheck' shellcheck -s sh branmuslin

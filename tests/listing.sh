@@ -22,6 +22,13 @@ far_more_is_too_long() { [ "$(octets_of_e0 3000000 | ./branmuslin list)" = 'too 
 
 nothing_lists_its_end() { [ "$(./branmuslin list </dev/null)" = 'end 0 0' ]; }
 
+# The program's buffer is as long as the law that says that every text fits.
+buffer_is_as_proved() {
+    local proved
+    proved=$(sed -n 's/^pub room : .* ≤ \([0-9]*\)$/\1/p' crates/listing/proofs/Room.antt) && [ -n "$proved" ] &&
+        [ "$(grep -c "\[.*; $proved\]" crates/list/src/main.rt)" -eq 2 ]
+}
+
 # A pipe hands over its octets in pieces.
 pieces_are_one_recording() {
     { head -c 5 samples/every.bin && sleep 0.2 && tail -c +6 samples/every.bin; } | ./branmuslin list | cmp - samples/every.txt
@@ -31,4 +38,5 @@ check 'list: 65,536 octets of E0 are listed whole' longest_is_listed_whole
 check 'list: 65,537 octets are too long' one_more_is_too_long
 check 'list: three million octets are too long' far_more_is_too_long
 check 'list: no octets' nothing_lists_its_end
+check 'list: its buffer is as long as is proved to suffice' buffer_is_as_proved
 check 'list: a recording that comes in pieces' pieces_are_one_recording

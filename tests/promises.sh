@@ -1,32 +1,50 @@
-# The promises: no public function asks anything of its caller, and docs/PROMISES.md names every public function and every must-fail edit.
+# The promises: every public function has one and asks nothing of its caller, docs/PROMISES.md lists it with wrong answers, and the edit for each
+# of these was refused because that very function could no longer be proved.
+
+sources() { find crates -path '*/src/*' -name '*.rt'; }
+
+# public_functions: crate::function for each.
 public_functions() {
-    awk '/^[[:space:]]*pub (extern "C" )?fn / { sub(/^.*fn /, ""); sub(/[^a-z0-9_].*/, ""); print FILENAME ":" $0 }' crates/*/src/*.rt
+    awk '/^[[:space:]]*pub (extern "C" )?fn / { sub(/^.*fn /, ""); sub(/[^a-z0-9_].*/, ""); split(FILENAME, part, "/"); print part[2] "::" $0 }' $(sources)
 }
 
-no_public_requires() {
-    ! awk '/^[[:space:]]*pub (extern "C" )?fn / { public = 1; name = FILENAME ": " $0 }
-        public && /^[[:space:]]*requires/ { print name }
-        /^[[:space:]]*\{/ || /\{$/ { public = 0 }' crates/*/src/*.rt | grep .
+# public_clauses WORD: crate::function for each public function that has a clause of that kind.
+public_clauses() {
+    awk -v word="$1" '
+        /^[[:space:]]*pub (extern "C" )?fn / { name = $0; sub(/^.*fn /, "", name); sub(/[^a-z0-9_].*/, "", name); split(FILENAME, part, "/"); public = 1 }
+        public && $1 == word { print part[2] "::" name; public = 0 }
+        /^[[:space:]]*\{$/ || /\{$/ { public = 0 }' $(sources) | sort -u
 }
 
-every_promise_is_listed() {
-    local missing=0 entry crate
-    for entry in $(public_functions); do
-        crate=${entry#crates/}
-        grep -qF "\`${crate%%/*}::${entry##*:}\`" docs/PROMISES.md || { echo "no entry for ${crate%%/*}::${entry##*:}" && missing=1; }
-    done
-    return "$missing"
+no_public_requires() { ! public_clauses requires | grep .; }
+
+every_public_ensures() { public_clauses ensures | diff - <(public_functions | sort -u); }
+
+# listed_answers: 'crate::function edit' for each wrong answer that docs/PROMISES.md lists.
+listed_answers() {
+    awk -F'|' '/^\| `[a-z]+::/ { name = $2; gsub(/[ `]/, "", name); answers = $4
+        while (match(answers, /`[a-z0-9_]+`/)) { print name, substr(answers, RSTART + 1, RLENGTH - 2); answers = substr(answers, RSTART + RLENGTH) } }' docs/PROMISES.md
+}
+
+every_function_has_two_wrong_answers() {
+    diff <(public_functions | sort -u) <(listed_answers | awk '{ seen[$1]++ } END { for (name in seen) if (seen[name] > 1) print name }' | sort -u)
 }
 
 every_edit_is_listed() {
-    local missing=0 edit
-    for edit in crates/*/must-fail/*.edit; do
-        edit=${edit##*/}
-        grep -qF "\`${edit%.edit}\`" docs/PROMISES.md || { echo "no entry for the edit ${edit%.edit}" && missing=1; }
-    done
-    return "$missing"
+    diff <(for edit in crates/*/must-fail/*.edit; do basename "$edit" .edit; done | sort) \
+        <({ listed_answers | awk '{ print $2 }' && echo a_wrong_row; } | sort)
+}
+
+# Not because the edit broke a name or made a proof unfit for the code's shape.
+stands_at_a_fact() {
+    local log=target/must-fail/${1%%::*}/$2/.log
+    grep -E "^fn $1: (not proved|no proof)" "$log" && ! grep -E 'has no `Need-|is not in scope|binders, but its type' "$log"
 }
 
 check 'no public function has a requires' no_public_requires
-check 'docs/PROMISES.md has every public function' every_promise_is_listed
-check 'docs/PROMISES.md has every must-fail edit' every_edit_is_listed
+check 'every public function has an ensures' every_public_ensures
+check 'docs/PROMISES.md has two wrong answers for every public function' every_function_has_two_wrong_answers
+check 'docs/PROMISES.md and the must-fail edits are the same' every_edit_is_listed
+while read -r function edit; do
+    check "$function rules out $edit" stands_at_a_fact "$function" "$edit"
+done < <(listed_answers)

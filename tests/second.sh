@@ -2,11 +2,12 @@
 second=$CARGO_TARGET_DIR/release/second
 
 second_cases() {
-    "$second" cases >"$work/second-cases" && target/bin/cases >"$work/cases" && cmp "$work/second-cases" "$work/cases" &&
+    "$second" cases >"$work/second-cases" </dev/null && target/bin/cases >"$work/cases" && cmp "$work/second-cases" "$work/cases" &&
         cmp "$work/second-cases" crates/cases/stdout
 }
 
 check 'the second program builds' cargo build --quiet --release --offline --manifest-path tests/second/Cargo.toml
 check "the second program's own tests" cargo test --quiet --release --offline --manifest-path tests/second/Cargo.toml
 check 'cases: the second program prints the same' second_cases
+check 'cases: the second program reads and walks thousands of generated inputs alike' "$second" compare-cases target/bin/cases
 check 'list: the second program lists thousands of generated inputs alike' "$second" compare target/bin/list

@@ -1,4 +1,6 @@
-// The program cases: runs the paper's reading and listing cases that are not starred, and those of the open points, and prints what came.
+// The program cases: runs the paper's reading and listing cases that are not starred, and some of docs/DECISIONS.md, and prints what came;
+// then it reads and walks what stands on standard input, if anything does.
+use libc::STDIN_FILENO;
 use libc::STDOUT_FILENO;
 use packet::Packet;
 
@@ -74,6 +76,15 @@ fn read_case(s: &[u8]) {
     say(b"\n");
 }
 
+fn walk_case(s: &[u8]) {
+    let walked = walk::walk(s);
+    say(b"walk");
+    say_number(walked.at as u64);
+    say_number(walked.packets as u64);
+    say_number(walked.refused as u64);
+    say(b"\n");
+}
+
 fn list_case(s: &[u8]) {
     say(b"list");
     say_octets(s);
@@ -92,8 +103,8 @@ fn paper_reading_cases() {
     read_case(b"\xEB\x00\x00\x00\x00\x01\x00\x06");
 }
 
-// What the paper leaves to a reading: the order of causes, and fields that its cases do not show.
-fn open_point_cases() {
+// The order of causes, and fields that the paper's cases do not show.
+fn decision_cases() {
     read_case(b"\x0F\xFF");
     read_case(b"\xF8");
     read_case(b"\xF9\x01");
@@ -111,8 +122,19 @@ fn listing_cases() {
     list_case(b"\x20");
 }
 
+// At most 4,096 octets.
+fn input_cases() {
+    let mut input = io::buffer();
+    let count = io::read_full(STDIN_FILENO, &mut input);
+    if count > 0 {
+        read_case(&input[..count]);
+        walk_case(&input[..count]);
+    }
+}
+
 fn main() {
     paper_reading_cases();
-    open_point_cases();
+    decision_cases();
     listing_cases();
+    input_cases();
 }

@@ -1,4 +1,5 @@
-// The program list: reads a recording from standard input and prints its listing, or `too long`.
+// The program list: reads a recording from standard input and prints its listing, or `too long`. A program has no exit status in Rattle:
+// where reading or writing fails it says so on standard error, which `./branmuslin` turns into a status.
 use libc::STDIN_FILENO;
 use libc::STDOUT_FILENO;
 
@@ -15,7 +16,14 @@ fn text_room() -> [u8; 1310752] {
 fn main() {
     let mut recording = recording_room();
     let count = io::read_full(STDIN_FILENO, &mut recording);
+    // A short count is the end of the input or a read that failed, which leaves its errno.
+    if os::errno() != 0 {
+        os::fail(b"standard input");
+        return;
+    }
     let mut text = text_room();
     let listed = listing::list_recording(&recording[..count], &mut text);
-    io::write_all(STDOUT_FILENO, listing::written(listed, &text));
+    if !io::write_all(STDOUT_FILENO, listing::written(listed, &text)) {
+        os::fail(b"standard output");
+    }
 }

@@ -1,23 +1,22 @@
 -- What is left to list where a loop stands; each turn takes one line off its front. What carries both loops of the lister.
 use Prim.Native.Nat.{ℕ, _+_, _-_, _≤_, _<_}
-use mathlib.Core.Path.{_≡_, refl, sym, ap, _∙_}
-use mathlib.Core.List.{List, [], _∷_, _++_, append-assoc, append-nil}
-use mathlib.Core.Bool.{cond}
+use mathlib.Core.Path.{_≡_, refl, sym, _∙_}
+use mathlib.Core.List.{List, _++_, append-assoc}
 use native.Mathlib.Nat.{sub-zero}
 use native.Mathlib.Omega.{arith}
 use borrow.Author.Tests.{eq-eqb, ne-eqb, eqb-true, eqb-false}
 use lib.Dec.{eqb}
-use lib.ListN.{length, drop, length-append}
+use lib.ListN.{length, drop}
 use Rattle.octets.proofs.Order.{either}
 use Rattle.packet.specs.Space.{version}
-use Rattle.packet.specs.Reading.{isSpace, refusal, reading, size}
+use Rattle.packet.specs.Reading.{refusal, reading, size}
 use Rattle.packet.specs.Told.{told, numberOf, sizeOf}
 use Rattle.packet.specs.declared.Packet.{Packet}
 use Rattle.packet.specs.declared.Packet.the-variants.{Space, Encapsulation, Refused}
 use Rattle.packet.proofs.Answers.{Says, says, number-read, size-read}
 use Rattle.walk.specs.Walk.{placesFrom, places, end, stop}
-use Rattle.walk.proofs.Going.{Going, Turn, Stopped, turned, at-end, at-refusal}
-use Rattle.listing.specs.Listing.{line, packetLine, packetLines, refusedLine, endLine, listing}
+use Rattle.walk.proofs.Going.{Going, Turn, turned, at-end, at-refusal}
+use Rattle.listing.specs.Listing.{packetLine, packetLines, refusedLine, endLine, listing}
 use Rattle.listing.specs.Lines.{lineOf}
 
 -- the lines from index at on, with n packets behind it

@@ -1,3 +1,4 @@
+pub mod Answers
 pub mod Puts
 pub mod Decimal
 pub mod Numbers

@@ -1,12 +1,12 @@
 -- Text that is put after text is one text put once: what carries every line.
 use Prim.Native.Nat.{ℕ, _+_, _-_, _≤_}
-use mathlib.Core.Path.{_≡_, refl, sym, ap, _∙_}
-use mathlib.Core.List.{List, [], _∷_, _++_, append-assoc, append-nil}
+use mathlib.Core.Path.{_≡_, sym, ap, _∙_}
+use mathlib.Core.List.{List, [], _++_, append-assoc, append-nil}
 use native.Mathlib.Omega.{arith}
 use native.Mathlib.Nat.{add-zero, add-assoc}
 use borrow.Rule.Slice.PartMut.{putMid, midOf, post-is}
 use lib.ListN.{length, take, drop, length-append, length-take, length-drop, take-append-drop, drop-of-length-le}
-use lib.Seq.{take-length, length-take-le, take-at, drop-at, drop-append-add, drop-drop, drop-append-seam}
+use lib.Seq.{take-length, take-at, drop-at, drop-drop}
 use Rattle.listing.specs.Text.{put}
 
 -- a copy into the part from at on puts the text there

@@ -1,8 +1,8 @@
 -- No text for a recording is longer than 1,310,752 octets: within 65,536 octets each packet has at most 20 octets of text for each octet of
 -- its own, and the last two lines have 16 each.
-use Prim.Native.Nat.{ℕ, zero, suc, _+_, _*_, _-_, _^_, _≤_, _<_}
-use mathlib.Core.Path.{_≡_, refl, sym, ap, _∙_}
-use mathlib.Core.List.{List, [], _∷_, _++_}
+use Prim.Native.Nat.{ℕ, suc, _+_, _*_, _-_, _^_, _≤_, _<_}
+use mathlib.Core.Path.{_≡_, refl}
+use mathlib.Core.List.{List, [], _∷_}
 use mathlib.Core.Bool.{Bool, true, false, cond}
 use native.Mathlib.Omega.{arith}
 use borrow.Author.Tests.{eq-eqb, ne-eqb, eqb-true, eqb-false, leb-true}
@@ -17,20 +17,15 @@ use Rattle.packet.proofs.Exactly.{exactly, exactly-whole, numbered}
 use Rattle.packet.proofs.Within.{HeaderIs, one, two, four, eight, header-is}
 use Rattle.walk.specs.Walk.{next, places, end, stop}
 use Rattle.walk.proofs.Rises.{Run, rises}
-use Rattle.listing.specs.Text.{ascii, decimal, number, numbers}
-use Rattle.listing.specs.Listing.{tail, line, packetLine, packetLines, refusedLine, endLine, listing, recordingText}
-use Rattle.listing.proofs.Short.{digits-below}
-
--- a number below 10 ^ (k + 1), after a blank
-number-below : (k n : ℕ) → n < 10 ^ suc k → length (number n) ≤ k + 2
-unfolding number
-number-below k n h = omega (arith, digits-below k n h)
+use Rattle.listing.specs.Text.{ascii, numbers}
+use Rattle.listing.specs.Listing.{lineEnd, line, packetLine, packetLines, refusedLine, endLine, listing, recordingText}
+use Rattle.listing.proofs.Short.{digits-below, number-below}
 
 -- a line with four numbers, by their digits
 line-of-four : (at : ℕ) (word : List ℕ) (a b c d : ℕ) (i j k l : ℕ) → at < 10 ^ 5 → length word ≡ 6
     → a < 10 ^ suc i → b < 10 ^ suc j → c < 10 ^ suc k → d < 10 ^ suc l
     → length (line at word (a ∷ b ∷ c ∷ d ∷ [])) ≤ 20 + (i + j + k + l)
-unfolding line tail numbers
+unfolding line lineEnd numbers
 line-of-four at word a b c d i j k l h w p q r s =
     simp length-append
     (omega (arith, w, digits-below 4 at h, number-below i a p, number-below j b q, number-below k c r, number-below l d s))
@@ -75,12 +70,12 @@ refusal-small : (s : List ℕ) → refusal s ≤ 7
 refusal-small s = either (eqb (refusal s) 0) (λ t. omega (arith, eqb-true (refusal s) 0 t)) (λ f. omega (arith, numbered (exactly s (refusal s) (omega (arith, eqb-false (refusal s) 0 f)) .0 refl)))
 
 refused-room : (at k : ℕ) → at < 10 ^ 5 → k < 10 → (b : Bool) → length (cond b [] (line at (ascii " refused") (k ∷ []))) ≤ 16
-unfolding line tail numbers
+unfolding line lineEnd numbers
 refused-room at k h s true = omega arith
 refused-room at k h s false = simp length-append (omega (arith, digits-below 4 at h, number-below 0 k s))
 
 end-room : (at n : ℕ) → at < 10 ^ 5 → n < 10 ^ 5 → length (endLine at n) ≤ 16
-unfolding endLine tail numbers
+unfolding endLine lineEnd numbers
 end-room at n h k = simp length-append (omega (arith, number-below 4 at h, number-below 4 n k))
 
 stop-small : (s : List ℕ) (b : Bool) → cond b 0 (refusal (drop (end s) s)) ≤ 7

@@ -1,6 +1,6 @@
 -- No line has more than 128 octets: a number of 64 bits has at most 20 digits, and a line has at most five numbers.
-use Prim.Native.Nat.{ℕ, zero, suc, _+_, _*_, _/_, _%_, _^_, _-_, _≤_, _<_}
-use mathlib.Core.Path.{_≡_, refl, sym, ap, _∙_}
+use Prim.Native.Nat.{ℕ, zero, suc, _+_, _*_, _/_, _^_, _≤_, _<_}
+use mathlib.Core.Path.{_≡_, refl}
 use mathlib.Core.List.{List, [], _∷_, _++_}
 use mathlib.Core.Bool.{Bool, true, false, cond}
 use native.Mathlib.Nat.{pow-suc}
@@ -13,7 +13,7 @@ use Rattle.packet.specs.declared.Packet.the-variants.{Space, Encapsulation, Ref
 use Rattle.packet.proofs.Exactly.{exactly, numbered}
 use Rattle.packet.proofs.Answers.{Says, part-told}
 use Rattle.listing.specs.Text.{ascii, digit, decimalOver, decimal, number, numbers}
-use Rattle.listing.specs.Listing.{tail, line, endLine}
+use Rattle.listing.specs.Listing.{lineEnd, line, endLine}
 use Rattle.listing.specs.Lines.{lineOf}
 
 -- n below 10 ^ (k + 1) has at most k + 1 digits
@@ -41,9 +41,10 @@ digits-below k n h = digits-over n n k h
 decimal-short : (n : ℕ) → n < 2 ^ 64 → length (decimal n) ≤ 20
 decimal-short n h = digits-below 19 n (omega arith)
 
-number-short : (n : ℕ) → n < 2 ^ 64 → length (number n) ≤ 21
+-- a number below 10 ^ (k + 1), after a blank
+pub number-below : (k n : ℕ) → n < 10 ^ suc k → length (number n) ≤ k + 2
 unfolding number
-number-short n h = omega (arith, decimal-short n h)
+number-below k n h = omega (arith, digits-below k n h)
 
 -- all numbers of a line have 64 bits
 abbrev Small : List ℕ → Type 0
@@ -53,15 +54,15 @@ Small (n ∷ ns) = (n < 2 ^ 64) × Small ns
 numbers-short : (ns : List ℕ) → Small ns → length (numbers ns) ≤ 21 * length ns
 unfolding numbers
 numbers-short [] h = omega arith
-numbers-short (n ∷ ns) h = omega (arith, number-short n (h .0), numbers-short ns (h .1), length-append (number n) (numbers ns))
+numbers-short (n ∷ ns) h = omega (arith, number-below 19 n (omega (arith, h .0)), numbers-short ns (h .1), length-append (number n) (numbers ns))
 
 line-short : (at : ℕ) (word ns : List ℕ) → at < 2 ^ 64 → Small ns → length word ≤ 8 → length ns ≤ 4 → length (line at word ns) ≤ 128
-unfolding line tail
+unfolding line lineEnd
 line-short at word ns h small w n =
     omega (arith, decimal-short at h, numbers-short ns small, length-append (decimal at ++ word) (numbers ns ++ ascii "\n"), length-append (decimal at) word, length-append (numbers ns) (ascii "\n"))
 
 pub end-short : (at n : ℕ) → at < 2 ^ 64 → n < 2 ^ 64 → length (endLine at n) ≤ 128
-unfolding endLine tail
+unfolding endLine lineEnd
 end-short at n h k =
     omega (arith, numbers-short (at ∷ n ∷ []) (h, (k, tt)), length-append (numbers (at ∷ n ∷ [])) (ascii "\n"))
 

@@ -11,12 +11,12 @@ use Rattle.walk.specs.Walk.{places, end, stop}
 use Rattle.listing.specs.Text.{ascii, decimal, numbers}
 
 -- the numbers that end a line
-unfoldable pub tail : List ℕ → List ℕ
-tail ns = numbers ns ++ ascii "\n"
+unfoldable pub lineEnd : List ℕ → List ℕ
+lineEnd ns = numbers ns ++ ascii "\n"
 
 -- an offset, a word and numbers
 unfoldable pub line : ℕ → List ℕ → List ℕ → List ℕ
-line at word ns = decimal at ++ word ++ tail ns
+line at word ns = decimal at ++ word ++ lineEnd ns
 
 -- kind; then APID, flags, count, data octets; or protocol ID, extension, header octets, content octets
 unfoldable pub packetLine : ℕ → List ℕ → List ℕ
@@ -35,7 +35,7 @@ refusedLine at k = cond (eqb k 0) [] (line at (ascii " refused") (k ∷ []))
 
 -- `end` gives octets in whole packets and their count
 unfoldable pub endLine : ℕ → ℕ → List ℕ
-endLine at packets = ascii "end" ++ tail (at ∷ packets ∷ [])
+endLine at packets = ascii "end" ++ lineEnd (at ∷ packets ∷ [])
 
 unfoldable pub listing : List ℕ → List ℕ
 listing s = packetLines s (places s) ++ refusedLine (end s) (stop s) ++ endLine (end s) (length (places s))

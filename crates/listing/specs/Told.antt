@@ -1,8 +1,8 @@
 -- What the lister's enum tells, as a number and a value; and what it leaves in the lent output.
 use Prim.Native.Nat.{ℕ}
-use mathlib.Core.List.{List, [], _∷_, _++_}
+use mathlib.Core.List.{List, [], _∷_}
 use mathlib.Core.Bool.{cond}
-use lib.ListN.{length, drop}
+use lib.ListN.{length}
 use lib.Dec.{leb}
 use Rattle.listing.specs.Text.{put}
 use Rattle.listing.specs.declared.Listed.{Listed}

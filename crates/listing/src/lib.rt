@@ -46,6 +46,7 @@ pub fn list_recording(s: &[u8], out: &mut [u8]) -> Listed
     if s.len() <= LONGEST {
         return list(s, out);
     }
+    // `too long` and the end of its line have 9 octets.
     if out.len() < 9 {
         return Listed::TooShort;
     }
@@ -71,7 +72,8 @@ pub fn written(listed: Listed, text: &[u8]) -> &[u8]
     if n <= text.len() { &text[..n] } else { text }
 }
 
-// Whether the listing of s has at most `room` octets. Each line is made in a small array, so that nothing is touched before it is known.
+// Whether the listing of s has at most `room` octets. The output must stay untouched where it doesn't fit, so each line is made in an array
+// first, and again by `put_all`; no line has more than 128 octets (proofs/Short.antt).
 fn fits(s: &[u8], room: usize) -> bool
     ensures { λ r. ⌜ r ≡ leb (length (listing (now (s .entry)))) room ⌝ }
 {

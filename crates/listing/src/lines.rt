@@ -3,7 +3,7 @@ ghost use mathlib.Core.Path.{_≡_};
 ghost use Prim.Native.Nat.{_+_, _≤_};
 ghost use lib.ListN.{length};
 ghost use Rattle.listing.specs.Text.{put as puts};
-ghost use Rattle.listing.specs.Listing.{tail, line, endLine};
+ghost use Rattle.listing.specs.Listing.{lineEnd, line, endLine};
 ghost use Rattle.listing.specs.Lines.{lineOf};
 use crate::text::put;
 use crate::text::put_decimal;
@@ -11,10 +11,10 @@ use crate::text::put_numbers;
 use packet::Packet;
 
 // Puts the numbers that end a line.
-fn put_tail(out: &mut [u8], at: usize, ns: &[u64]) -> usize
-    requires { ⌜ at + length (tail (now ns)) ≤ length (now out) ⌝ }
-    ensures { λ r. ⌜ r ≡ at + length (tail (now (ns .entry))) ⌝ }
-    ensures { λ _. ⌜ now (out .exit) ≡ puts (now (out .entry)) at (tail (now (ns .entry))) ⌝ }
+fn put_line_end(out: &mut [u8], at: usize, ns: &[u64]) -> usize
+    requires { ⌜ at + length (lineEnd (now ns)) ≤ length (now out) ⌝ }
+    ensures { λ r. ⌜ r ≡ at + length (lineEnd (now (ns .entry))) ⌝ }
+    ensures { λ _. ⌜ now (out .exit) ≡ puts (now (out .entry)) at (lineEnd (now (ns .entry))) ⌝ }
 {
     let to = put_numbers(out, at, ns);
     put(out, to, b"\n")
@@ -28,7 +28,7 @@ fn put_line(out: &mut [u8], at: usize, place: usize, word: &[u8], ns: &[u64]) ->
 {
     let to = put_decimal(out, at, place as u64);
     let to = put(out, to, word);
-    put_tail(out, to, ns)
+    put_line_end(out, to, ns)
 }
 
 // Puts the line of what was read at a place.
@@ -52,7 +52,7 @@ pub(crate) fn put_packet(out: &mut [u8], at: usize, place: usize, p: Packet) -> 
             &[apid as u64, flags as u64, count as u64, octets as u64],
         ),
         Packet::Encapsulation {
-            protocol,
+            protocol: id,
             extension,
             header,
             octets,
@@ -62,12 +62,7 @@ pub(crate) fn put_packet(out: &mut [u8], at: usize, place: usize, p: Packet) -> 
             at,
             place,
             b" encap",
-            &[
-                protocol as u64,
-                extension as u64,
-                header as u64,
-                octets as u64,
-            ],
+            &[id as u64, extension as u64, header as u64, octets as u64],
         ),
         Packet::Refused(number) => put_line(out, at, place, b" refused", &[number as u64]),
     }
@@ -80,5 +75,5 @@ pub(crate) fn put_end(out: &mut [u8], at: usize, octets: usize, packets: usize) 
     ensures { λ _. ⌜ now (out .exit) ≡ puts (now (out .entry)) at (endLine octets packets) ⌝ }
 {
     let to = put(out, at, b"end");
-    put_tail(out, to, &[octets as u64, packets as u64])
+    put_line_end(out, to, &[octets as u64, packets as u64])
 }

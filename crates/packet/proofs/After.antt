@@ -1,8 +1,8 @@
 -- Octets after the packet are not looked at. Appending leaves every octet of the header as it was, so the fields, the tests and the
 -- verdict stay; only a packet that was cut short (1) may read otherwise with more octets.
 use Prim.Native.Nat.{ℕ, _+_, _-_, _≤_, _<_}
-use mathlib.Core.Path.{_≡_, refl, sym, ap, _∙_}
-use mathlib.Core.Logic.{_⊎_, inl, inr, ⊎-elim}
+use mathlib.Core.Path.{_≡_, refl, sym, _∙_}
+use mathlib.Core.Logic.{⊎-elim}
 use mathlib.Core.List.{List, _++_}
 use mathlib.Core.Bool.{Bool, true, false, cond}
 use native.Mathlib.Omega.{arith}
@@ -10,14 +10,14 @@ use borrow.Author.Tests.{eq-eqb, ne-eqb, eqb-true, eqb-false, ltb-false}
 use lib.Dec.{ltb, eqb}
 use lib.ListN.{length, take, drop, length-append, length-drop, List·getD-append}
 use lib.Seq.{take-append-le, drop-append-le}
-use Rattle.octets.specs.Octets.{octet, be16, be32}
-use Rattle.packet.specs.Space.{version, packetType, secondary, apid, flags, count, spaceHeader, dataOctets, spaceSize, flaggedIdle}
-use Rattle.packet.specs.Encapsulation.{protocol, encapHeader, second, user, extension, ccsds, encapSize, misnamed, emptyNamed}
-use Rattle.packet.specs.Reading.{limit, header, size, refusal, fields, reading, content, contentAt}
+use Rattle.octets.specs.Octets.{octet, be16}
+use Rattle.packet.specs.Space.{version, spaceSize, flaggedIdle}
+use Rattle.packet.specs.Encapsulation.{encapHeader, second, ccsds, encapSize, misnamed, emptyNamed}
+use Rattle.packet.specs.Reading.{header, size, refusal, fields, reading, content, contentAt}
 use Rattle.packet.specs.Causes.{Cause, no-octets, no-version, space-header, idle, space-packet, encap-header, names-nothing, less-than-header, over-limit, no-content, encap-packet}
-use Rattle.packet.specs.Causes.{Whole, space, encapsulation, Version, SpaceThere, EncapThere, SpaceGood, EncapNamed, EncapGood}
-use Rattle.packet.proofs.Exactly.{gives, whole-gives, numbered, verdict, refused, accepted}
-use Rattle.packet.proofs.Within.{HeaderIs, one, two, four, eight, header-is, header-some, Within, whole-within}
+use Rattle.packet.specs.Causes.{Whole, space, encapsulation, Version, SpaceThere, EncapThere, EncapGood}
+use Rattle.packet.proofs.Exactly.{gives, whole-gives, numbered, verdict, exactly, refused, accepted}
+use Rattle.packet.proofs.Within.{HeaderIs, one, two, four, eight, header-is, whole-within, within}
 
 -- a choice stays where what it would choose stays
 chosen : {A : Type 0} (b : Bool) {x y x′ y′ : A} → (b ≡ true → x ≡ x′) → (b ≡ false → y ≡ y′) → cond b x y ≡ cond b x′ y′
@@ -184,3 +184,32 @@ module _ (p rest : List ℕ) where
   -- the law: reading p with anything after it is reading p, where p is not cut short
   pub after : (refusal p ≡ 1 → ⊥) → (reading (p ++ rest) ≡ reading p) × (content (p ++ rest) ≡ content p) × (contentAt (p ++ rest) ≡ contentAt p)
   after u = ⊎-elim of-whole (λ k. of-cause (λ e. u (gives (k .1) ∙ e)) (k .1)) (verdict p)
+
+  -- the other way round: where p holds the whole of the packet that is read from p and anything after it, p is not cut short
+  module _ (r : refusal (p ++ rest) ≡ 0) (w : size (p ++ rest) ≤ length p) where
+    uncut : {n : ℕ} → Cause p n → n ≡ 1 → ⊥
+    unfolding header size
+    uncut (no-octets e) one′ = omega (arith, within (p ++ rest) r)
+    uncut (space-header v h) one′ =
+        let e = eq-eqb (version (p ++ rest)) 0 (there 0 v .1) in
+        omega (arith, simp e at (within (p ++ rest) r), simp e at w)
+    uncut (space-packet (t, i) h) one′ =
+        let a = space-alike t in
+        omega (arith, simp (eq-eqb (version (p ++ rest)) 0 (a .there-too .0 .1)) at w, a .size-same)
+    uncut (encap-header v h) one′ =
+        let e = ne-eqb (version (p ++ rest)) 0 (λ z. omega (arith, there 7 v .1)) in
+        let k = kept 0 (v .0) in
+        let same : encapHeader (p ++ rest) ≡ encapHeader p = cc in
+        omega (arith, simp e at (within (p ++ rest) r), simp e at w, same)
+    uncut (encap-packet ((((t, m), l), o), k) h) one′ =
+        let a = encap-alike (t .0) (t .1) in
+        omega (arith, simp (ne-eqb (version (p ++ rest)) 0 (λ z. omega (arith, a .there-too .0 .1))) at w, a .size-same)
+    uncut (no-version some x y) one′ = omega arith
+    uncut (idle t i) one′ = omega arith
+    uncut (names-nothing t m) one′ = omega arith
+    uncut (less-than-header t l) one′ = omega arith
+    uncut (over-limit t o) one′ = omega arith
+    uncut (no-content t k) one′ = omega arith
+
+    pub prefix : (reading (p ++ rest) ≡ reading p) × (content (p ++ rest) ≡ content p) × (contentAt (p ++ rest) ≡ contentAt p)
+    prefix = after (λ e. uncut (exactly p 1 (omega arith) .0 e) refl)

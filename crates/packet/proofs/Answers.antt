@@ -1,5 +1,5 @@
 -- What the reader's enum says of the octets, case by case, from the one equation of its promise; and that the equation fixes the answer.
-use Prim.Native.Nat.{ℕ, _+_, _-_, _≤_, _<_}
+use Prim.Native.Nat.{ℕ, _-_, _≤_, _<_}
 use mathlib.Core.Path.{_≡_, refl, sym, _∙_}
 use mathlib.Core.List.{List, [], _∷_}
 use mathlib.Core.Bool.{Bool, true, false, cond}
@@ -7,16 +7,16 @@ use native.Mathlib.Omega.{arith}
 use borrow.Author.Tests.{eq-eqb, ne-eqb, eqb-true, eqb-false}
 use lib.Dec.{eqb}
 use lib.ListN.{length, take, drop}
-use Rattle.packet.specs.Space.{version, packetType, secondary, apid, flags, count, dataOctets, spaceSize}
+use Rattle.packet.specs.Space.{version, packetType, secondary, apid, flags, count, dataOctets}
 use Rattle.packet.specs.Encapsulation.{protocol, user, extension, encapHeader, encapSize}
-use Rattle.packet.specs.Reading.{isSpace, header, size, refusal, fields, reading, content, contentAt}
+use Rattle.packet.specs.Reading.{header, size, refusal, fields, reading, content, contentAt}
 use Rattle.packet.specs.Told.{told, numberOf, sizeOf, headerOf}
 use Rattle.packet.specs.declared.Packet.{Packet}
 use Rattle.packet.specs.declared.Packet.the-variants.{Space, Encapsulation, Refused}
 use Rattle.packet.proofs.Within.{Within, within}
 
 -- two answers that tell the same are the same
-pub told-fixes : (p q : Packet) → told p ≡ told q → p ≡ q
+told-fixes : (p q : Packet) → told p ≡ told q → p ≡ q
 told-fixes (Space t x a f c n) (Space t′ x′ a′ f′ c′ n′) e = cc
 told-fixes (Encapsulation p u x h n) (Encapsulation p′ u′ x′ h′ n′) e = cc
 told-fixes (Refused k) (Refused k′) e = cc
@@ -26,6 +26,10 @@ told-fixes (Space t x a f c n) (Refused k) e = let z : _≡_ {A = ℕ} 0 1 = cc 
 told-fixes (Refused k) (Space t x a f c n) e = let z : _≡_ {A = ℕ} 0 1 = cc in absurd (omega arith)
 told-fixes (Encapsulation p u x h n) (Refused k) e = let z : _≡_ {A = ℕ} 0 1 = cc in absurd (omega arith)
 told-fixes (Refused k) (Encapsulation p u x h n) e = let z : _≡_ {A = ℕ} 0 1 = cc in absurd (omega arith)
+
+-- so the promise permits one answer
+pub one-answer : (p q : Packet) (s : List ℕ) → told p ≡ reading s → told q ≡ reading s → p ≡ q
+one-answer p q s e f = told-fixes p q (e ∙ sym f)
 
 -- what each case says of the octets
 abbrev pub Says : Packet → List ℕ → Type 0

@@ -1,10 +1,9 @@
 -- Each number is given exactly when its cause holds. A cause fixes which tests hold, so the order gives its number (`gives`); and for every
 -- list of octets some cause holds or the packet is whole (`verdict`), so a number that is given has its cause.
 use Prim.Native.Nat.{ℕ, _≤_, _<_}
-use mathlib.Core.Path.{_≡_, refl, sym, subst, _∙_}
+use mathlib.Core.Path.{_≡_, sym, subst, _∙_}
 use mathlib.Core.Logic.{_⊎_, inl, inr, ⊎-elim}
 use mathlib.Core.List.{List, [], _∷_}
-use mathlib.Core.Bool.{Bool, true, false}
 use native.Mathlib.Omega.{arith}
 use borrow.Author.Tests.{eq-eqb, ne-eqb, lt-ltb, le-ltb, ltb-true, ltb-false, eqb-true, eqb-false}
 use lib.Dec.{ltb, eqb}
@@ -14,7 +13,7 @@ use Rattle.packet.specs.Space.{version, spaceHeader, spaceSize, flaggedI
 use Rattle.packet.specs.Encapsulation.{encapHeader, encapSize, misnamed, emptyNamed}
 use Rattle.packet.specs.Reading.{limit, readingTests, refusal, fields, reading}
 use Rattle.packet.specs.Causes.{Cause, no-octets, no-version, space-header, idle, space-packet, encap-header, names-nothing, less-than-header, over-limit, no-content, encap-packet}
-use Rattle.packet.specs.Causes.{Version, SpaceThere, SpaceGood, EncapThere, EncapNamed, EncapLong, EncapLimited, EncapGood, Whole, space, encapsulation}
+use Rattle.packet.specs.Causes.{Version, SpaceThere, EncapThere, EncapLong, EncapLimited, Whole, space, encapsulation}
 use Rattle.packet.proofs.ByKind.{space-refusal, encap-refusal}
 
 pub gives : {s : List ℕ} {n : ℕ} → Cause s n → refusal s ≡ n

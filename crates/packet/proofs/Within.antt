@@ -1,7 +1,6 @@
 -- A packet that is read lies within the octets: a whole packet is at least its header and at most what is there, by its kind.
 use Prim.Native.Nat.{ℕ, _≤_}
 use mathlib.Core.Path.{_≡_, refl}
-use mathlib.Core.Logic.{_⊎_, inl, inr}
 use mathlib.Core.List.{List}
 use mathlib.Core.Bool.{Bool, true, false, cond}
 use native.Mathlib.Omega.{arith}
@@ -9,7 +8,7 @@ use borrow.Author.Tests.{eq-eqb, ne-eqb}
 use lib.Dec.{eqb}
 use lib.ListN.{length}
 use Rattle.packet.specs.Space.{version}
-use Rattle.packet.specs.Encapsulation.{lengthOfLength, headerFor, encapHeader, encapSize}
+use Rattle.packet.specs.Encapsulation.{lengthOfLength, encapHeader}
 use Rattle.packet.specs.Reading.{header, size, refusal}
 use Rattle.packet.specs.Causes.{Whole, space, encapsulation}
 use Rattle.packet.proofs.Exactly.{exactly-whole}

@@ -39,7 +39,8 @@ sizeFor h s = cond (eqb h 1) 1 (cond (eqb h 2) (octet s 1) (cond (eqb h 4) (be16
 abbrev pub encapSize : List ℕ → ℕ
 encapSize s = sizeFor (encapHeader s) s
 
--- protocol ID 6 in a 1 or 2 octet header; or extension not 0 with another ID; or CCSDS field not 0
+-- protocol ID 6 in a 1 or 2 octet header; or extension not 0 with another ID; or CCSDS field not 0: of header octets h, protocol ID p,
+-- extension x, CCSDS field f
 abbrev pub misnames : ℕ → ℕ → ℕ → ℕ → Bool
 misnames h p x f = (eqb p 6 && ltb h 4) || (not (eqb x 0) && not (eqb p 6)) || not (eqb f 0)
 

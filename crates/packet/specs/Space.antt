@@ -6,6 +6,7 @@ use mathlib.Core.Bool.{Bool, _&&_}
 use lib.Dec.{eqb}
 use Rattle.octets.specs.Octets.{octet, be16}
 
+-- the first three bits, which an Encapsulation Packet has too
 abbrev pub version : List ℕ → ℕ
 version s = octet s 0 / 32 % 8
 

@@ -1,6 +1,7 @@
 -- What the reader's enum tells, as the paper's number and values.
 use Prim.Native.Nat.{ℕ, _+_}
 use mathlib.Core.List.{List, [], _∷_}
+use Rattle.packet.specs.Space.{spaceHeader}
 use Rattle.packet.specs.declared.Packet.{Packet}
 use Rattle.packet.specs.declared.Packet.the-variants.{Space, Encapsulation, Refused}
 
@@ -18,12 +19,12 @@ numberOf (Refused number) = number
 
 -- octets of the whole packet that was read, or 0
 abbrev pub sizeOf : Packet → ℕ
-sizeOf (Space t x a f c n) = 6 + n
+sizeOf (Space t x a f c n) = spaceHeader + n
 sizeOf (Encapsulation p u x h n) = h + n
 sizeOf (Refused number) = 0
 
 -- octets of its header, or 0
 abbrev pub headerOf : Packet → ℕ
-headerOf (Space t x a f c n) = 6
+headerOf (Space t x a f c n) = spaceHeader
 headerOf (Encapsulation p u x h n) = h
 headerOf (Refused number) = 0

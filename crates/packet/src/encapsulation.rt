@@ -14,6 +14,7 @@ use octets::be16_at;
 use octets::be32_at;
 use octets::octet_at;
 
+// Our limit of octets a packet, which is the longest Space Packet's size too.
 const LIMIT: usize = 65542;
 
 // The octets of the header, from the length of length.
@@ -61,10 +62,10 @@ fn ccsds_for(h: u8, s: &[u8]) -> u16
 }
 
 // Whether the fields name no protocol, which is refusal 7.
-fn is_misnamed(h: u8, p: u8, x: u8, f: u16) -> bool
-    ensures { λ r. ⌜ r ≡ misnames h p x f ⌝ }
+fn is_misnamed(header: u8, protocol: u8, extension: u8, ccsds: u16) -> bool
+    ensures { λ r. ⌜ r ≡ misnames header protocol extension ccsds ⌝ }
 {
-    ((p == 6) & (h < 4)) | ((x != 0) & (p != 6)) | (f != 0)
+    ((protocol == 6) & (header < 4)) | ((extension != 0) & (protocol != 6)) | (ccsds != 0)
 }
 
 // What the octets of a packet of version 111 tell.

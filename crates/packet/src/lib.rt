@@ -7,9 +7,11 @@ ghost use Prim.Native.Nat.{_+_};
 ghost use denote.Ref.{ptr};
 ghost use Rattle.packet.specs.Reading.{reading, content, contentAt};
 ghost use Rattle.packet.specs.Told.{told, numberOf, sizeOf, headerOf};
+use octets::octet_at;
 
 // What reading tells. Fields that a header does not have are 0.
 pub enum Packet {
+    // type 0 is telemetry, 1 telecommand; flags 0 continuation, 1 first, 2 last, 3 unsegmented; octets are those of the data field
     Space {
         packet_type: u8,
         secondary: u8,
@@ -18,6 +20,7 @@ pub enum Packet {
         count: u16,
         octets: u32,
     },
+    // protocol is the protocol ID; header and octets count the octets of the header and of the content
     Encapsulation {
         protocol: u8,
         user: u8,
@@ -25,6 +28,7 @@ pub enum Packet {
         header: u8,
         octets: u32,
     },
+    // one of the numbers 1 to 7
     Refused(u8),
 }
 
@@ -35,7 +39,7 @@ pub fn read_packet(s: &[u8]) -> Packet
     if s.len() == 0 {
         return Packet::Refused(1);
     }
-    let version = s[0] / 32 % 8;
+    let version = octet_at(s, 0) / 32 % 8;
     if version == 0 {
         return space::read(s);
     }
@@ -61,7 +65,7 @@ pub fn header_of(p: Packet) -> usize
     ensures { λ r. ⌜ r ≡ headerOf p ⌝ }
 {
     match p {
-        Packet::Space { .. } => 6,
+        Packet::Space { .. } => space::HEADER,
         Packet::Encapsulation { header, .. } => header as usize,
         Packet::Refused(_) => 0,
     }
@@ -72,7 +76,7 @@ pub fn size_of(p: Packet) -> usize
     ensures { λ r. ⌜ r ≡ sizeOf p ⌝ }
 {
     match p {
-        Packet::Space { octets, .. } => 6 + octets as usize,
+        Packet::Space { octets, .. } => space::HEADER + octets as usize,
         Packet::Encapsulation { header, octets, .. } => header as usize + octets as usize,
         Packet::Refused(_) => 0,
     }

@@ -9,6 +9,9 @@ use crate::Packet;
 use octets::be16_at;
 use octets::octet_at;
 
+pub(crate) const HEADER: usize = 6;
+
+// The APID of idle packets, which never have a secondary header.
 const IDLE: u16 = 2047;
 
 // What the octets of a packet of version 000 tell.
@@ -16,7 +19,7 @@ pub(crate) fn read(s: &[u8]) -> Packet
     requires { ⌜ (0 < length (now s)) × (version (now s) ≡ 0) ⌝ }
     ensures { λ r. ⌜ told r ≡ reading (now (s .entry)) ⌝ }
 {
-    if s.len() < 6 {
+    if s.len() < HEADER {
         return Packet::Refused(1);
     }
     let first = octet_at(s, 0);
@@ -26,7 +29,7 @@ pub(crate) fn read(s: &[u8]) -> Packet
         return Packet::Refused(3);
     }
     let octets = be16_at(s, 4) as u32 + 1;
-    if s.len() < 6 + octets as usize {
+    if s.len() < HEADER + octets as usize {
         return Packet::Refused(1);
     }
     Packet::Space {

@@ -2,9 +2,7 @@
 use Prim.Native.Nat.{ℕ, zero, suc, _+_, _-_, _≤_, _<_}
 use mathlib.Core.Path.{_≡_, refl, sym, ap, _∙_}
 use mathlib.Core.List.{List, [], _∷_}
-use mathlib.Core.Bool.{Bool, true, false, cond}
 use native.Mathlib.Nat.{sub-zero, zero-add}
-use native.Mathlib.Numerals.{add-one}
 use native.Mathlib.Omega.{arith}
 use borrow.Author.Tests.{eq-eqb, ne-eqb}
 use lib.ListN.{length, drop, length-drop, drop-of-length-le}
@@ -44,14 +42,18 @@ module _ (s : List ℕ) where
   pub past-end : (at : ℕ) → length s ≤ at → refusal (drop at s) ≡ 1
   past-end at h = gives (no-octets (ap length (drop-of-length-le s h)))
 
+  -- a packet that is read has an octet at least, and lies within the octets
+  pub moves : (at : ℕ) → at ≤ length s → refusal (drop at s) ≡ 0 → (at < next s at) × (next s at ≤ length s)
+  moves at h e = omega (arith, within (drop at s) e, length-drop at s)
+
   module _ (at n : ℕ) (g : Going s at n) where
     -- one packet more is read
     module _ (e : refusal (drop at s) ≡ 0) where
-      pub moves : (at < next s at) × (next s at ≤ length s)
-      moves = let b = within (drop at s) e in omega (arith, b, length-drop at s)
+      moved : (at < next s at) × (next s at ≤ length s)
+      moved = moves at (g .inside) e
 
       turn : length s - n ≡ suc (length s - (n + 1))
-      turn = omega (arith, moves)
+      turn = omega (arith, moved, g .behind)
 
       pub place : placesFrom (length s - n) s at ≡ at ∷ placesFrom (length s - (n + 1)) s (next s at)
       unfolding placesFrom
@@ -60,7 +62,7 @@ module _ (s : List ℕ) where
       pub goes-on : Going s (next s at) (n + 1)
       unfolding endFrom
       goes-on =
-          let m = moves in
+          let m = moved in
           record {
             behind = omega (arith, g .behind);
             inside = m .1;
@@ -70,7 +72,7 @@ module _ (s : List ℕ) where
 
       -- the turn as code has it, with z for the size that was read
       pub turned : {z : ℕ} → z ≡ size (drop at s) → Turn s at n z
-      turned q = rw q (record { rises = moves .0; within = moves .1; going = goes-on; place = place })
+      turned q = rw q (record { rises = moved .0; within = moved .1; going = goes-on; place = place })
 
     -- no packet more is read
     module _ (u : refusal (drop at s) ≡ 0 → ⊥) where
@@ -84,16 +86,16 @@ module _ (s : List ℕ) where
       no-end zero = refl
       no-end (suc most) = simp (ne-eqb _ _ u)
 
+      here : end s ≡ at
+      here = g .same-end ∙ no-end _
+
       stopped : {k : ℕ} → stop s ≡ k → Stopped s at n k
       stopped e = record {
-        end-here = g .same-end ∙ no-end _;
+        end-here = here;
         all-counted = omega (arith, g .same-count, ap length (no-place (length s - n)));
         stop-here = e;
         no-more = no-place _;
       }
-
-      here : end s ≡ at
-      here = g .same-end ∙ no-end _
 
       pub at-refusal : at < length s → {k : ℕ} → k ≡ refusal (drop at s) → Stopped s at n k
       unfolding stop

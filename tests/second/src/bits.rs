@@ -1,8 +1,7 @@
 //! Octets seen as one row of bits, highest bit first.
 //!
-//! Fields are taken and laid in the order in which they are sent. No offset of
-//! any field is written down anywhere: a header's size is what its fields
-//! add up to.
+//! Fields are taken and laid in the order in which they are sent, so no offset
+//! of any field is written down.
 
 /// The bits at hand ended before the number did.
 #[derive(Debug, PartialEq, Eq)]
@@ -57,7 +56,7 @@ impl BitWriter {
     /// Lays the lowest `width` bits of the number, the highest of them first.
     pub fn lay(&mut self, width: u32, number: u32) -> &mut Self {
         for place in (0..width).rev() {
-            if self.laid.is_multiple_of(8) {
+            if self.laid % 8 == 0 {
                 self.octets.push(0);
             }
             let bit = ((number >> place) & 1) as u8;

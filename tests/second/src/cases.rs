@@ -1,8 +1,16 @@
 //! The paper's cases, and some more, as lines to lay beside the intake's own.
+//!
+//! A listing leaves out the type, the secondary header flag, the user field and
+//! the data. So that these too can be compared on any octets, an input given
+//! here is one more case.
 
 use crate::hex;
 use crate::lister::listing;
 use crate::reader::{read, Packet, Refusal};
+use crate::walk::outcome;
+
+/// Of a longer input only so many octets count.
+pub const LONGEST_CASE: usize = 4_096;
 
 /// The paper's starred reading cases. They are proved elsewhere and so not
 /// printed, but they are compared and tested here all the same.
@@ -40,11 +48,23 @@ pub const READING: &[&str] = &[
 
 pub const LISTING: &[&str] = &["00 2A C0 05 00 01 AA BB E0 E9 05 11 22 33 00 2A", "", "20"];
 
-/// All cases with their answers, each line with its newline.
-pub fn text() -> String {
+/// The fixed cases with their answers, then those about the input, if there is
+/// one; each line with its newline.
+pub fn text(input: &[u8]) -> String {
     let reading = READING.iter().map(|case| reading_case(&hex::octets(case)));
     let listing = LISTING.iter().map(|case| listing_case(&hex::octets(case)));
-    reading.chain(listing).collect()
+    let fixed: String = reading.chain(listing).collect();
+    fixed + &input_cases(input)
+}
+
+/// The front of the input as a reading case, and where a walk over it ends.
+fn input_cases(input: &[u8]) -> String {
+    // Cut before anything is read: a packet that goes on is cut short too.
+    let counted = &input[..input.len().min(LONGEST_CASE)];
+    if counted.is_empty() {
+        return String::new();
+    }
+    reading_case(counted) + &walking_case(counted)
 }
 
 fn reading_case(octets: &[u8]) -> String {
@@ -53,6 +73,13 @@ fn reading_case(octets: &[u8]) -> String {
 
 fn listing_case(octets: &[u8]) -> String {
     format!("list{}:\n{}", after_blanks(octets), listing(octets))
+}
+
+fn walking_case(octets: &[u8]) -> String {
+    let end = outcome(octets);
+    // No refusal has the number 0, so it is free to stand for none.
+    let refused = end.refusal.map_or(0, |refusal| refusal.0);
+    format!("walk {} {} {refused}\n", end.octets, end.packets)
 }
 
 fn answer(answer: &Result<Packet<'_>, Refusal>) -> String {
@@ -112,7 +139,55 @@ mod tests {
 
     #[test]
     fn as_many_cases_as_were_named() {
-        assert_eq!(text().matches("read ").count(), 15);
-        assert_eq!(text().matches("list").count(), 3);
+        assert_eq!(text(&[]).matches("read ").count(), 15);
+        assert_eq!(text(&[]).matches("list").count(), 3);
+        assert_eq!(text(&[]).matches("walk").count(), 0);
+    }
+
+    /// What is printed after the fixed cases, as lines.
+    fn adds(input: &[u8], read: &str, walk: &str) {
+        let whole = text(input);
+        let added = whole.strip_prefix(&text(&[]));
+        assert_eq!(added, Some(&*format!("read {read}\nwalk {walk}\n")));
+    }
+
+    #[test]
+    fn an_input_of_whole_packets() {
+        adds(
+            &hex::octets("00 2A C0 05 00 01 AA BB E0"),
+            "00 2a c0 05 00 01 aa bb e0: space 0 0 42 3 5 2 data aa bb",
+            "9 2 0",
+        );
+        adds(&hex::octets("E0"), "e0: encap 0 0 0 1 0 data", "1 1 0");
+    }
+
+    #[test]
+    fn an_input_that_is_refused_later() {
+        adds(
+            &hex::octets("FE 90 00 06 11 22 E0 00 2A"),
+            "fe 90 00 06 11 22 e0 00 2a: encap 7 9 0 4 2 data 11 22",
+            "7 2 1",
+        );
+        adds(
+            &hex::octets("18 2A 40 07 00 00 99 F8 E0"),
+            "18 2a 40 07 00 00 99 f8 e0: space 1 1 42 1 7 1 data 99",
+            "7 1 7",
+        );
+    }
+
+    #[test]
+    fn an_input_that_is_refused_at_once() {
+        adds(&hex::octets("20 E0"), "20 e0: refused 2 data", "0 0 2");
+    }
+
+    #[test]
+    fn the_longest_input_and_more() {
+        let read = format!("{}: encap 0 0 0 1 0 data", hex::text(&[0xE0; 4_096]));
+        adds(&[0xE0; 4_096], &read, "4096 4096 0");
+        adds(&[0xE0; 4_097], &read, "4096 4096 0");
+        // Header and content of the last packet lie beyond what counts.
+        let cut = [&[0xE0; 4_095][..], &[0xE9, 0x03, 0x55]].concat();
+        let read = format!("{}: encap 0 0 0 1 0 data", hex::text(&cut[..4_096]));
+        adds(&cut, &read, "4095 4095 1");
     }
 }

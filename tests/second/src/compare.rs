@@ -1,7 +1,8 @@
-//! Lays another lister's answers beside this program's own.
+//! Lays another program's answers beside this program's own.
 
+use crate::cases;
 use crate::hex;
-use crate::inputs;
+use crate::inputs::{self, Inputs};
 use crate::lister::listing;
 use std::ffi::OsString;
 use std::io::{self, Read, Write};
@@ -11,11 +12,22 @@ use std::thread;
 /// How many octets of an input, or of a line, are worth showing.
 const SHOWN: usize = 96;
 
-/// The number of inputs that were listed alike, or the first difference.
-pub fn compare(program: &[OsString]) -> Result<usize, String> {
-    let inputs = inputs::all();
-    for input in &inputs {
-        let expected = listing(input);
+/// The number of inputs that gave the same, or the first difference.
+pub type Comparison = Result<usize, String>;
+
+/// Compares with a program that lists.
+pub fn compare_listings(program: &[OsString]) -> Comparison {
+    compare(program, &inputs::all(), listing)
+}
+
+/// Compares with a program that prints the cases and those about its input.
+pub fn compare_cases(program: &[OsString]) -> Comparison {
+    compare(program, &inputs::short(), cases::text)
+}
+
+fn compare(program: &[OsString], inputs: &Inputs, expect: fn(&[u8]) -> String) -> Comparison {
+    for input in inputs {
+        let expected = expect(input);
         let came = answer(program, input).map_err(|fault| about_input(input) + &fault)?;
         if came != expected.as_bytes() {
             return Err(about_input(input) + &difference(expected.as_bytes(), &came));
@@ -24,8 +36,8 @@ pub fn compare(program: &[OsString]) -> Result<usize, String> {
     Ok(inputs.len())
 }
 
-/// What the program writes for this input. How it ends is its own matter, but
-/// a program that was killed has not answered.
+/// What the program writes for this input. A program that ends badly has not
+/// answered, whatever it wrote.
 fn answer(program: &[OsString], input: &[u8]) -> Result<Vec<u8>, String> {
     let fault = |error: io::Error| format!("the program can't be run: {error}");
     let mut child = Command::new(&program[0])
@@ -48,8 +60,8 @@ fn answer(program: &[OsString], input: &[u8]) -> Result<Vec<u8>, String> {
     let status = child.wait().map_err(fault)?;
     read.map_err(fault)?;
     match status.code() {
-        Some(_) => Ok(came),
-        None => Err(format!("the program was killed: {status}")),
+        Some(0) => Ok(came),
+        _ => Err(format!("the program ended badly: {status}")),
     }
 }
 
@@ -59,31 +71,42 @@ fn about_input(input: &[u8]) -> String {
     format!("input of {} octets: {shown}{more}\n", input.len())
 }
 
-/// Both listings around the first line in which they differ.
+/// Both texts around the first line in which they differ.
 fn difference(expected: &[u8], came: &[u8]) -> String {
     let expected: Vec<&[u8]> = expected.split_inclusive(|octet| *octet == b'\n').collect();
     let came: Vec<&[u8]> = came.split_inclusive(|octet| *octet == b'\n').collect();
-    let same = expected
-        .iter()
-        .zip(&came)
-        .take_while(|(one, other)| one == other)
-        .count();
-    let expected = around(&expected, same);
-    let came = around(&came, same);
+    let same = alike(&expected, &came);
+    // A case repeats its input, so the difference may lie far along the line.
+    let from = match (expected.get(same), came.get(same)) {
+        (Some(one), Some(other)) => alike(one, other).saturating_sub(SHOWN / 2),
+        _ => 0,
+    };
+    let expected = around(&expected, same, from);
+    let came = around(&came, same, from);
     format!(
         "first difference in line {}\nexpected:\n{expected}came:\n{came}",
         same + 1
     )
 }
 
-/// The line at this place with one before it and one after it.
-fn around(lines: &[&[u8]], place: usize) -> String {
+/// How many of the first lines, or octets, are the same.
+fn alike<T: PartialEq>(one: &[T], other: &[T]) -> usize {
+    let pairs = one.iter().zip(other);
+    pairs.take_while(|(one, other)| one == other).count()
+}
+
+/// The line at this place, shown from this octet on, with one before it and
+/// one after it.
+fn around(lines: &[&[u8]], place: usize, from: usize) -> String {
     let last = lines.len().min(place + 2);
     let first = last.min(place.saturating_sub(1));
     let mut text = String::new();
     for (number, line) in lines.iter().enumerate().take(last).skip(first) {
-        let shown = line[..line.len().min(SHOWN)].escape_ascii();
-        text.push_str(&format!("  {}: {shown}\n", number + 1));
+        let skipped = if number == place { from } else { 0 };
+        let left_out = if skipped > 0 { "... " } else { "" };
+        let rest = &line[skipped..];
+        let shown = rest[..rest.len().min(SHOWN)].escape_ascii();
+        text.push_str(&format!("  {}: {left_out}{shown}\n", number + 1));
     }
     if place >= lines.len() {
         text.push_str("  (nothing more)\n");
@@ -111,6 +134,18 @@ mod tests {
         assert!(shown.ends_with("came:\n  (nothing more)\n"));
         let shown = difference(b"a\n", b"a\nb\n");
         assert!(shown.contains("expected:\n  1: a\\n\n  (nothing more)\n"));
+    }
+
+    #[test]
+    fn shows_a_difference_far_along_a_line() {
+        let start = "e0 ".repeat(600);
+        let expected = format!("{start}: encap 0\nwalk\n");
+        let came = format!("{start}: space 1\nwalk\n");
+        let shown = difference(expected.as_bytes(), came.as_bytes());
+        assert!(shown.starts_with("first difference in line 1\nexpected:\n  1: ... "));
+        assert!(shown.contains(" : encap 0\\n\n  2: walk\\n\ncame:\n  1: ... "));
+        assert!(shown.ends_with(" : space 1\\n\n  2: walk\\n\n"));
+        assert!(shown.len() < 400);
     }
 
     #[test]

@@ -1,13 +1,16 @@
-//! The inputs on which two listers are compared. They are the same in every run.
+//! The inputs on which two programs are compared. They are the same in every run.
 
 mod chance;
 mod exact;
 mod limits;
 mod packets;
+mod single;
 
 use std::collections::HashSet;
 
 pub type Inputs = Vec<Vec<u8>>;
+
+const LONGEST_SHORT: usize = 600;
 
 /// Every input once, in a fixed order.
 pub fn all() -> Inputs {
@@ -21,6 +24,8 @@ pub fn all() -> Inputs {
         limits::space_lengths(),
         limits::encap_lengths(),
         limits::input_lengths(),
+        single::filled_packets(),
+        single::empty_packets(),
         chance::runs(),
         chance::damaged_runs(),
         chance::shifted_runs(),
@@ -34,11 +39,19 @@ pub fn all() -> Inputs {
     inputs
 }
 
+/// The inputs for the cases, which print each octet: none so long that it
+/// would only add to the printing, and not the empty one, which adds no case.
+pub fn short() -> Inputs {
+    let mut inputs = all();
+    inputs.retain(|input| (1..=LONGEST_SHORT).contains(&input.len()));
+    inputs
+}
+
 #[cfg(test)]
 mod tests {
     use super::*;
     use crate::lister::LONGEST_INPUT;
-    use crate::reader::Packet;
+    use crate::reader::{read, Packet};
     use crate::walk::walk;
     use std::collections::HashMap;
 
@@ -78,11 +91,98 @@ mod tests {
 
     #[test]
     fn meet_everything_at_the_front_and_later() {
-        let tally = tally(&all());
-        for thing in everything() {
-            let times = tally.get(&thing).copied().unwrap_or(0);
-            assert!(times >= 10, "{thing} is met only {times} times");
+        requires(10, &everything(), &tally(&all()));
+        requires(10, &everything(), &tally(&short()));
+    }
+
+    fn requires(least: usize, things: &[String], tally: &HashMap<String, usize>) {
+        for thing in things {
+            let times = tally.get(thing).copied().unwrap_or(0);
+            assert!(times >= least, "{thing} is met only {times} times");
         }
+    }
+
+    /// How often each thing that the cases show, but a listing doesn't, is met
+    /// at the front of a short input.
+    fn tally_of_fronts() -> HashMap<String, usize> {
+        let mut tally = HashMap::new();
+        for input in short() {
+            let things = read(&input).map(|packet| things(&packet, input.len()));
+            for thing in things.unwrap_or_default() {
+                *tally.entry(thing).or_default() += 1;
+            }
+        }
+        tally
+    }
+
+    fn things(packet: &Packet<'_>, input_octets: usize) -> Vec<String> {
+        let after = packet.octets() < input_octets;
+        match packet {
+            Packet::Space(p) => vec![space_thing(p.packet_type, p.secondary, after)],
+            Packet::Encap(p) => {
+                let size = p.header_octets;
+                let mut things = vec![content_thing(p.content.is_empty(), size, after)];
+                // A user field that isn't there is no field of value 0.
+                if size >= 4 {
+                    things.push(format!("user {} in {size}", p.user));
+                }
+                if p.protocol == 6 {
+                    things.push(format!("extension {} in {size}", p.extension));
+                }
+                things
+            }
+        }
+    }
+
+    fn space_thing(packet_type: u32, secondary: u32, after: bool) -> String {
+        format!("type {packet_type} secondary {secondary} octets after {after}")
+    }
+
+    fn content_thing(empty: bool, size: usize, after: bool) -> String {
+        format!("empty {empty} in {size} octets after {after}")
+    }
+
+    #[test]
+    fn meet_every_field_at_the_front_of_short_ones() {
+        let mut things = Vec::new();
+        for after in [false, true] {
+            for bits in 0..4 {
+                things.push(space_thing(bits & 1, bits >> 1, after));
+            }
+            things.extend([2, 4, 8].map(|size| content_thing(false, size, after)));
+            things.extend([4, 8].map(|size| content_thing(true, size, after)));
+        }
+        things.extend([1, 2].map(|size| content_thing(true, size, true)));
+        for nibble in 0..16 {
+            things.extend([4, 8].map(|size| format!("user {nibble} in {size}")));
+            things.extend([4, 8].map(|size| format!("extension {nibble} in {size}")));
+        }
+        let tally = tally_of_fronts();
+        requires(10, &things, &tally);
+        // E0 alone and E1 02 alone: there are no others of their kind.
+        let only = [1, 2].map(|size| content_thing(true, size, false));
+        requires(1, &only, &tally);
+    }
+
+    #[test]
+    fn show_many_different_data_at_the_front_of_short_ones() {
+        let (mut spaces, mut encaps) = (HashSet::new(), HashSet::new());
+        for input in short() {
+            match read(&input) {
+                Ok(Packet::Space(p)) => spaces.insert(p.data.to_vec()),
+                Ok(Packet::Encap(p)) => encaps.insert(p.content.to_vec()),
+                Err(_) => false,
+            };
+        }
+        assert!(spaces.len() >= 500, "only {} data fields", spaces.len());
+        assert!(encaps.len() >= 500, "only {} contents", encaps.len());
+    }
+
+    #[test]
+    fn have_every_length_that_the_cases_take_up_to_100() {
+        let lengths: HashSet<usize> = short().iter().map(Vec::len).collect();
+        assert!((1..=100).all(|length| lengths.contains(&length)));
+        assert!(lengths.iter().all(|length| (1..=600).contains(length)));
     }
 
     #[test]
@@ -98,6 +198,13 @@ mod tests {
         let near = [65_535, 65_536, 65_537, 70_000];
         for length in (0..=100).chain(near) {
             assert!(lengths.contains(&length), "no input of {length} octets");
+        }
+    }
+
+    #[test]
+    fn single_packets_are_good() {
+        for input in [single::filled_packets(), single::empty_packets()].concat() {
+            assert!(read(&input).is_ok(), "{input:02x?}");
         }
     }
 

@@ -1,7 +1,7 @@
 //! The listing of a run of packets.
 
 use crate::reader::{Packet, Refusal};
-use crate::walk::walk;
+use crate::walk::{outcome, walk};
 
 pub const LONGEST_INPUT: usize = 65_536;
 
@@ -10,17 +10,11 @@ pub fn listing(input: &[u8]) -> String {
     if input.len() > LONGEST_INPUT {
         return "too long\n".to_string();
     }
-    let mut text = String::new();
-    let mut octets = 0;
-    let mut packets = 0;
-    for (offset, answer) in walk(input) {
-        text.push_str(&line(offset, &answer));
-        if let Ok(packet) = answer {
-            octets += packet.octets();
-            packets += 1;
-        }
-    }
-    text + &format!("end {octets} {packets}\n")
+    let lines: String = walk(input)
+        .map(|(offset, answer)| line(offset, &answer))
+        .collect();
+    let end = outcome(input);
+    lines + &format!("end {} {}\n", end.octets, end.packets)
 }
 
 fn line(offset: usize, answer: &Result<Packet<'_>, Refusal>) -> String {

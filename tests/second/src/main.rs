@@ -19,15 +19,17 @@ use std::ffi::OsString;
 use std::io::{self, Read, Write};
 use std::process::ExitCode;
 
-const USAGE: &str = "usage: second list | second cases | second compare PROGRAM [ARGUMENT...]";
+const USAGE: &str = "usage: second list | second cases | \
+    second compare PROGRAM [ARGUMENT...] | second compare-cases PROGRAM [ARGUMENT...]";
 
 fn main() -> ExitCode {
     let words: Vec<OsString> = env::args_os().skip(1).collect();
     let command = words.first().and_then(|word| word.to_str());
     match (command, words.len()) {
-        (Some("list"), 1) => printed(list()),
-        (Some("cases"), 1) => printed(print(&cases::text())),
-        (Some("compare"), 2..) => compared(&words[1..]),
+        (Some("list"), 1) => printed(answer(lister::listing)),
+        (Some("cases"), 1) => printed(answer(cases::text)),
+        (Some("compare"), 2..) => compared(compare::compare_listings(&words[1..]), "listed"),
+        (Some("compare-cases"), 2..) => compared(compare::compare_cases(&words[1..]), "read"),
         _ => {
             eprintln!("{USAGE}");
             ExitCode::from(2)
@@ -35,11 +37,12 @@ fn main() -> ExitCode {
     }
 }
 
-fn list() -> io::Result<()> {
-    print(&lister::listing(&input()?))
+fn answer(text: fn(&[u8]) -> String) -> io::Result<()> {
+    print(&text(&input()?))
 }
 
-/// Standard input, kept only as far as is needed to see that it is too long.
+/// Standard input, kept only as far as is needed to see that it is too long to
+/// be listed; the cases look at less of it.
 /// The rest is read all the same, so that the sender never meets a closed pipe.
 fn input() -> io::Result<Vec<u8>> {
     let mut stdin = io::stdin().lock();
@@ -66,9 +69,9 @@ fn printed(outcome: io::Result<()>) -> ExitCode {
     }
 }
 
-fn compared(program: &[OsString]) -> ExitCode {
-    match compare::compare(program) {
-        Ok(inputs) => printed(print(&format!("{inputs} inputs listed alike\n"))),
+fn compared(comparison: compare::Comparison, done: &str) -> ExitCode {
+    match comparison {
+        Ok(inputs) => printed(print(&format!("{inputs} inputs {done} alike\n"))),
         Err(difference) => {
             eprintln!("{}", difference.trim_end());
             ExitCode::FAILURE

@@ -18,6 +18,29 @@ pub fn walk(octets: &[u8]) -> Walk<'_> {
     }
 }
 
+/// What a walk came to: the octets in whole packets, how many packets they
+/// are, and the refusal that stopped it, if one did.
+#[derive(Debug, Default, PartialEq, Eq)]
+pub struct Outcome {
+    pub octets: usize,
+    pub packets: usize,
+    pub refusal: Option<Refusal>,
+}
+
+pub fn outcome(octets: &[u8]) -> Outcome {
+    let mut outcome = Outcome::default();
+    for (_, answer) in walk(octets) {
+        match answer {
+            Ok(packet) => {
+                outcome.octets += packet.octets();
+                outcome.packets += 1;
+            }
+            Err(refusal) => outcome.refusal = Some(refusal),
+        }
+    }
+    outcome
+}
+
 impl<'a> Iterator for Walk<'a> {
     type Item = (usize, Result<Packet<'a>, Refusal>);
 

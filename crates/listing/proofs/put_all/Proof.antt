@@ -1,12 +1,12 @@
 -- The invariant: the walk goes on, and the text is put up to what is left to list.
-use Prim.Native.Nat.{_+_, _-_, _≤_}
-use mathlib.Core.Path.{_≡_, refl, sym, ap, _∙_}
+use Prim.Native.Nat.{_+_, _-_}
+use mathlib.Core.Path.{_≡_, _∙_}
 use mathlib.Core.Logic.{⊎-elim}
-use mathlib.Core.List.{[], _++_, append-nil}
+use mathlib.Core.List.{_++_}
 use native.Mathlib.Omega.{arith}
 use borrow.Author.Needs.{needs}
 use denote.Ref.{now}
-use lib.ListN.{length, drop}
+use lib.ListN.{length}
 use Rattle.walk.proofs.Going.{Going, Turn, at-start}
 use Rattle.listing.specs.Listing.{endLine, listing}
 use Rattle.listing.specs.Lines.{lineOf}

@@ -1,9 +1,8 @@
 -- A part up to the octets written is what `take` gives, also where that is more than there are.
-use mathlib.Core.Path.{_≡_, refl, sym, ap, _∙_}
+use mathlib.Core.Path.{refl, sym}
 use native.Mathlib.Omega.{arith}
 use borrow.Author.Needs.{needs}
 use denote.Ref.{now}
-use lib.ListN.{length, take}
 use lib.Seq.{length-take-le, take-all}
 use Rattle.listing.specs.Told.{octetsOf}
 use Rattle.listing.proofs.written.Statement.{statement}

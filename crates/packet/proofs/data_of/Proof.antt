@@ -1,11 +1,8 @@
 -- The part from the header to the end that was read is the data, by the law `part-told`.
-use Prim.Native.Nat.{_+_}
-use mathlib.Core.Path.{refl, ap}
+use mathlib.Core.Path.{refl}
 use native.Mathlib.Omega.{arith}
 use borrow.Author.Needs.{needs}
 use denote.Ref.{now}
-use Rattle.packet.specs.Reading.{contentAt}
-use Rattle.packet.specs.Told.{headerOf, sizeOf}
 use Rattle.packet.proofs.Answers.{PartIs, says, part-told}
 use Rattle.packet.proofs.data_of.Statement.{statement}
 use Rattle.packet.proofs.data_of.Tie as tie

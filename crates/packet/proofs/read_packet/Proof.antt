@@ -12,7 +12,9 @@ returns c = refused (no-octets (c .if1 .taken))
 returns-4 : tie.Need-returns-4
 returns-4 c =
     let some = c .before .before .before .if1 .left in
-    refused (no-version (omega (arith, some)) (c .before .if2 .left) (c .if3 .left))
+    let first = c .before .before .octet-at .ensures in
+    refused
+    (no-version (omega (arith, some)) (λ e. c .before .if2 .left (omega (arith, first, e))) (λ e. c .if3 .left (omega (arith, first, e))))
 
 pub read-packet-spec : {M : Type 1} → statement M
-read-packet-spec = tie.close (tie.spec returns (λ c. search needs) (λ c κs. search needs) (λ c. search needs) (λ c κs. search needs) (λ c. search needs) returns-4)
+read-packet-spec = tie.close (tie.spec returns (λ c κs. search needs) (λ c κs. search needs) (λ c. search needs) (λ c κs. search needs) (λ c. search needs) returns-4)

@@ -1,13 +1,12 @@
 -- The invariant is `Going`: the walk over all octets is the walk over those that are left.
-use Prim.Native.Nat.{ℕ, _+_, _-_}
-use mathlib.Core.Path.{_≡_, sym, ap, _∙_}
+use Prim.Native.Nat.{_-_}
+use mathlib.Core.Path.{sym, _∙_}
 use native.Mathlib.Omega.{arith}
 use borrow.Author.Needs.{needs}
 use denote.Ref.{now}
 use lib.ListN.{length, drop}
-use Rattle.packet.specs.Reading.{refusal}
 use Rattle.packet.proofs.Answers.{number-read, size-read}
-use Rattle.walk.specs.Walk.{walked, next}
+use Rattle.walk.specs.Walk.{walked}
 use Rattle.walk.proofs.Going.{Going, Turn, at-start, turned, at-end, at-refusal}
 use Rattle.walk.proofs.walk.Statement.{statement}
 use Rattle.walk.proofs.walk.Tie as tie

@@ -62,7 +62,7 @@ pub fn packet(random: &mut Random) -> Vec<u8> {
     }
 }
 
-fn space(random: &mut Random) -> Vec<u8> {
+pub fn space(random: &mut Random) -> Vec<u8> {
     let any = random.below(2_048);
     let apid = random.pick(&[0, 1, 42, 1_024, 2_046, 2_047, any]);
     let any = random.below(16_384);
@@ -93,9 +93,14 @@ fn encap(random: &mut Random) -> Vec<u8> {
         extension: if protocol == 6 { random.below(16) } else { 0 },
         ccsds: 0,
     };
+    encap_of(head, random)
+}
+
+/// A good packet with this head, if the head is good.
+pub fn encap_of(head: EncapHead, random: &mut Random) -> Vec<u8> {
     // Only protocol 0 may be without content.
-    let fewest = usize::from(protocol != 0);
-    let most = [0, 253, 65_531, 65_534][length_of_length];
+    let fewest = usize::from(head.protocol != 0);
+    let most = [0, 253, 65_531, 65_534][head.length_of_length];
     let octets = size(random).clamp(fewest, most);
     head.with(&random.octets(octets))
 }

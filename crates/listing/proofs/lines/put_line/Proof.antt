@@ -1,8 +1,8 @@
 -- The offset, the word and the numbers are put one after the other.
-use mathlib.Core.List.{[], _∷_, _++_}
+use mathlib.Core.List.{_++_}
 use denote.Ref.{now}
-use Rattle.listing.specs.Text.{ascii, decimal, numbers}
-use Rattle.listing.specs.Listing.{tail, line, endLine}
+use Rattle.listing.specs.Text.{decimal}
+use Rattle.listing.specs.Listing.{lineEnd, line}
 use Rattle.listing.proofs.Puts.{room, room-after, more}
 use borrow.Author.Needs.{needs}
 use Rattle.listing.proofs.lines.put_line.Statement.{statement}
@@ -14,7 +14,7 @@ put-decimal-requires c κs =
     let start = c .before .before .before .before in
     let word = now (start .args .word) in
     let place = decimal (start .args .place) in
-    room (now (start .args .out)) (start .args .at) place word (room (now (start .args .out)) (start .args .at) (place ++ word) (tail (now (start .args .ns))) (start .pre))
+    room (now (start .args .out)) (start .args .at) place word (room (now (start .args .out)) (start .args .at) (place ++ word) (lineEnd (now (start .args .ns))) (start .pre))
 
 put-requires : tie.Need-put-requires
 unfolding line
@@ -22,15 +22,15 @@ put-requires c κs =
     let start = c .before .before .before .before .before .before .before .before in
     let word = now (start .args .word) in
     let place = decimal (start .args .place) in
-    room-after (now (start .args .out)) (start .args .at) place word (room (now (start .args .out)) (start .args .at) (place ++ word) (tail (now (start .args .ns))) (start .pre)) (c .before .before .before .put-decimal .ensures)
+    room-after (now (start .args .out)) (start .args .at) place word (room (now (start .args .out)) (start .args .at) (place ++ word) (lineEnd (now (start .args .ns))) (start .pre)) (c .before .before .before .put-decimal .ensures)
 
-put-tail-requires : tie.Need-put-tail-requires
+put-line-end-requires : tie.Need-put-line-end-requires
 unfolding line
-put-tail-requires c κs =
+put-line-end-requires c κs =
     let start = c .before .before .before .before .before .before .before .before .before .before .before .before in
     let word = now (start .args .word) in
     let place = decimal (start .args .place) in
-    let rest = tail (now (start .args .ns)) in
+    let rest = lineEnd (now (start .args .ns)) in
     room-after (now (start .args .out)) (start .args .at) (place ++ word) rest (start .pre)
     (more (now (start .args .out)) (start .args .at) place word (room (now (start .args .out)) (start .args .at) (place ++ word) rest (start .pre)) (c .before .before .before .before .before .before .before .put-decimal .ensures) (c .before .before .before .put .ensures))
 
@@ -40,10 +40,10 @@ returns c =
     let start = c .before .before .before .before .before .before .before .before .before .before .before .before .before .before .before in
     let word = now (start .args .word) in
     let place = decimal (start .args .place) in
-    let rest = tail (now (start .args .ns)) in
+    let rest = lineEnd (now (start .args .ns)) in
     more (now (start .args .out)) (start .args .at) (place ++ word) rest (start .pre)
     (more (now (start .args .out)) (start .args .at) place word (room (now (start .args .out)) (start .args .at) (place ++ word) rest (start .pre)) (c .before .before .before .before .before .before .before .before .before .before .put-decimal .ensures) (c .before .before .before .before .before .before .put .ensures))
-    (c .before .before .put-tail .ensures)
+    (c .before .before .put-line-end .ensures)
 
 pub put-line-spec : {M : Type 1} → statement M
-put-line-spec = tie.close (tie.spec put-decimal-requires put-requires put-tail-requires (λ c. search needs) returns)
+put-line-spec = tie.close (tie.spec put-decimal-requires put-requires put-line-end-requires (λ c. search needs) returns)

@@ -1,6 +1,5 @@
 -- In each arm p is the case that the arm names, and its line is put whole.
 use mathlib.Core.Path.{ap}
-use lib.ListN.{length}
 use Rattle.listing.specs.Lines.{lineOf}
 use borrow.Author.Needs.{needs}
 use Rattle.listing.proofs.lines.put_packet.Statement.{statement}

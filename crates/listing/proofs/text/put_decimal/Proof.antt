@@ -1,7 +1,6 @@
 -- The digits that the kit spells are n in decimal, by the law `spelled`.
 use mathlib.Core.Path.{_≡_, _∙_}
 use lib.ListN.{take}
-use native.Mathlib.Omega.{arith}
 use Rattle.listing.specs.Text.{decimal}
 use Rattle.listing.proofs.Decimal.{spelled}
 use borrow.Author.Needs.{needs}

@@ -1,7 +1,6 @@
 -- The invariant: the first i numbers are put.
-use Prim.Native.Nat.{_≤_, _<_, _-_}
-use mathlib.Core.Path.{_≡_, refl, sym, ap, _∙_}
-use mathlib.Core.List.{_++_}
+use Prim.Native.Nat.{_≤_, _-_}
+use mathlib.Core.Path.{_≡_, refl, _∙_}
 use native.Mathlib.Numerals.{add-one}
 use native.Mathlib.Omega.{arith}
 use borrow.Author.Needs.{needs}
@@ -9,7 +8,7 @@ use denote.Ref.{now}
 use lib.ListN.{length, take, getD}
 use lib.Seq.{take-all}
 use Rattle.listing.specs.Text.{number, numbers}
-use Rattle.listing.proofs.Puts.{Wrote, nothing, room-after, more, put-length}
+use Rattle.listing.proofs.Puts.{Wrote, nothing, room-after, more}
 use Rattle.listing.proofs.Numbers.{one-more, one-fits}
 use Rattle.listing.proofs.text.put_numbers.Statement.{statement}
 use Rattle.listing.proofs.text.put_numbers.Tie as tie

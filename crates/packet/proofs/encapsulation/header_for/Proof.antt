@@ -1,6 +1,5 @@
 -- The tests that led to each way out pick the case of `headerFor`.
 use borrow.Author.Tests.{eq-eqb, ne-eqb}
-use borrow.Author.Needs.{needs}
 use Rattle.packet.proofs.encapsulation.header_for.Statement.{statement}
 use Rattle.packet.proofs.encapsulation.header_for.Tie as tie
 

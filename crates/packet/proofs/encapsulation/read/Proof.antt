@@ -1,15 +1,13 @@
 -- Each refusal has its cause, from the tests that led there; `cc` turns what was computed into what the definitions say.
-use Prim.Native.Nat.{_≤_, _<_}
 use mathlib.Core.Path.{_≡_}
 use mathlib.Core.Bool.{true, false}
 use borrow.Author.Needs.{needs}
 use borrow.Author.Tests.{ne-eqb}
 use native.Mathlib.Omega.{arith}
 use denote.Ref.{now}
-use lib.ListN.{length}
 use Rattle.packet.specs.Space.{version}
 use Rattle.packet.specs.Encapsulation.{encapHeader, encapSize, misnamed, emptyNamed}
-use Rattle.packet.specs.Reading.{limit, fields}
+use Rattle.packet.specs.Reading.{fields}
 use Rattle.packet.specs.Causes.{EncapNamed, encap-header, names-nothing, less-than-header, over-limit, no-content, encap-packet, encapsulation}
 use Rattle.packet.proofs.Exactly.{refused, accepted}
 use Rattle.packet.proofs.encapsulation.read.Statement.{statement}
