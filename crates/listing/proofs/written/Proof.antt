@@ -3,13 +3,14 @@ use mathlib.Core.Path.{refl, sym}
 use native.Mathlib.Omega.{arith}
 use borrow.Author.Needs.{needs}
 use denote.Ref.{now}
-use lib.Seq.{length-take-le, take-all}
+use lib.ListN.{length-take}
+use lib.Seq.{take-all}
 use Rattle.listing.specs.Told.{octetsOf}
 use Rattle.listing.proofs.written.Statement.{statement}
 use Rattle.listing.proofs.written.Tie as tie
 
 slice-aggregate-result : tie.Need-slice-aggregate-result
-slice-aggregate-result c = sym (length-take-le _ _ (c .before .if1 .taken))
+slice-aggregate-result c = simp length-take (omega arith)
 
 returns : tie.Need-returns
 returns c = (rw (c .before .before .octets-of .ensures), refl)
