@@ -6,7 +6,7 @@ use native.Mathlib.Omega.{arith}
 use native.Mathlib.Nat.{add-zero, add-assoc}
 use borrow.Rule.Slice.PartMut.{putMid, midOf, post-is}
 use lib.ListN.{length, take, drop, length-append, length-take, length-drop, take-append-drop, drop-of-length-le}
-use lib.Seq.{take-length, take-at, drop-at, drop-drop}
+use lib.Seq.{take-length, drop-drop, paste, length-paste, take-paste, drop-paste}
 use Rattle.listing.specs.Text.{put}
 
 -- a copy into the part from at on puts the text there
@@ -18,21 +18,21 @@ copied d text ys at h e =
     let n : length (midOf at (at + length text - at) d) ≤ length text = simp (length-take, length-drop) (omega arith) in
     rw (e, take-length text, drop-of-length-le (midOf at (at + length text - at) d) n, append-nil, post-is at (at + length text) d (omega arith), append-assoc)
 
--- the length stays
-pub put-length : (d : List ℕ) (at : ℕ) (text : List ℕ) → at + length text ≤ length d → length (put d at text) ≡ length d
-unfolding put
-put-length d at text h = simp (length-append, length-take, length-drop) (omega arith)
+-- text that is put is the kit's copy of all of it, whose laws serve
+module _ (d : List ℕ) (at : ℕ) (text : List ℕ) where
+  as-paste : put d at text ≡ paste d at text (length text)
+  unfolding put
+  as-paste = rw (take-length text)
 
--- what was put, and what lies after it
-pub take-put : (d : List ℕ) (at : ℕ) (text : List ℕ) → at + length text ≤ length d → take (at + length text) (put d at text) ≡ take at d ++ text
-unfolding put
-take-put d at text h =
-    take-at (take at d ++ text) (drop (at + length text) d) (at + length text) (simp (length-append, length-take) (omega arith))
+  module _ (h : at + length text ≤ length d) where
+    pub put-length : length (put d at text) ≡ length d
+    put-length = ap length as-paste ∙ length-paste d at text (length text) h (omega arith)
 
-pub drop-put : (d : List ℕ) (at : ℕ) (text : List ℕ) → at + length text ≤ length d → drop (at + length text) (put d at text) ≡ drop (at + length text) d
-unfolding put
-drop-put d at text h =
-    drop-at (take at d ++ text) (drop (at + length text) d) (at + length text) (simp (length-append, length-take) (omega arith))
+    pub take-put : take (at + length text) (put d at text) ≡ take at d ++ text
+    take-put = ap (take (at + length text)) as-paste ∙ take-paste d at text (length text) (omega arith) (omega arith) ∙ rw (take-length text)
+
+    pub drop-put : drop (at + length text) (put d at text) ≡ drop (at + length text) d
+    drop-put = ap (drop (at + length text)) as-paste ∙ drop-paste d at text (length text) (omega arith) (omega arith)
 
 joined : (d e : List ℕ) (at : ℕ) (a b : List ℕ) → take (at + length a) e ≡ take at d ++ a
     → drop (at + length a + length b) e ≡ drop (at + length a + length b) d → put e (at + length a) b ≡ put d at (a ++ b)
