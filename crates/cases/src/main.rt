@@ -1,140 +1,19 @@
-// The program cases: runs the paper's reading and listing cases that are not starred, and some of docs/DECISIONS.md, and prints what came;
-// then it reads and walks what stands on standard input, if anything does.
-use libc::STDIN_FILENO;
-use libc::STDOUT_FILENO;
-use packet::Packet;
-
-fn say(text: &[u8]) {
-    io::write_all(STDOUT_FILENO, text);
-}
-
-fn say_number(n: u64) {
-    say(b" ");
-    io::print_decimal(STDOUT_FILENO, n);
-}
-
-fn say_octet(octet: u8) {
-    say(b" ");
-    io::print_hex(STDOUT_FILENO, octet as u64, 2);
-}
-
-fn say_octets(s: &[u8]) {
-    let mut i = 0;
-    while i < s.len() {
-        say_octet(s[i]);
-        i += 1;
-    }
-}
-
-// The answer in the order of the reader's fields.
-fn say_packet(p: Packet) {
-    match p {
-        Packet::Space {
-            packet_type,
-            secondary,
-            apid,
-            flags,
-            count,
-            octets,
-        } => {
-            say(b" space");
-            say_number(packet_type as u64);
-            say_number(secondary as u64);
-            say_number(apid as u64);
-            say_number(flags as u64);
-            say_number(count as u64);
-            say_number(octets as u64);
-        }
-        Packet::Encapsulation {
-            protocol,
-            user,
-            extension,
-            header,
-            octets,
-        } => {
-            say(b" encap");
-            say_number(protocol as u64);
-            say_number(user as u64);
-            say_number(extension as u64);
-            say_number(header as u64);
-            say_number(octets as u64);
-        }
-        Packet::Refused(number) => {
-            say(b" refused");
-            say_number(number as u64);
-        }
-    }
-}
-
-fn read_case(s: &[u8]) {
-    say(b"read");
-    say_octets(s);
-    say(b":");
-    say_packet(packet::read_packet(s));
-    say(b" data");
-    say_octets(packet::data_of(s));
-    say(b"\n");
-}
-
-fn walk_case(s: &[u8]) {
-    let walked = walk::walk(s);
-    say(b"walk");
-    say_number(walked.at as u64);
-    say_number(walked.packets as u64);
-    say_number(walked.refused as u64);
-    say(b"\n");
-}
-
-fn list_case(s: &[u8]) {
-    say(b"list");
-    say_octets(s);
-    say(b":\n");
-    let mut text = [0u8; 512];
-    let listed = listing::list(s, &mut text);
-    say(listing::written(listed, &text));
-}
-
-fn paper_reading_cases() {
-    read_case(b"\xE1\x02");
-    read_case(b"\xE9\x01");
-    read_case(b"\xFA\x03\x00\x05\x55");
-    read_case(b"\xF9\x03\x00");
-    read_case(b"\xEA\x13\x00\x05\x55");
-    read_case(b"\xEB\x00\x00\x00\x00\x01\x00\x06");
-}
-
-// The order of causes, and fields that the paper's cases do not show.
-fn decision_cases() {
-    read_case(b"\x0F\xFF");
-    read_case(b"\xF8");
-    read_case(b"\xF9\x01");
-    read_case(b"\xFA\x03\x00\x04");
-    read_case(b"\xEA\x00\x00\x03");
-    read_case(b"\xEB\x00\x00\x01\x00\x00\x00\x09\x77");
-    read_case(b"\xEA\x40\x00\x06\x12\x34");
-    read_case(b"\x18\x2A\x40\x07\x00\x00\x99");
-    read_case(b"\x1F\xFE\xFF\xFF\x00\x02\x01\x02\x03\x04");
-}
-
-fn listing_cases() {
-    list_case(b"\x00\x2A\xC0\x05\x00\x01\xAA\xBB\xE0\xE9\x05\x11\x22\x33\x00\x2A");
-    list_case(b"");
-    list_case(b"\x20");
-}
-
-// At most 4,096 octets.
-fn input_cases() {
-    let mut input = io::buffer();
-    let count = io::read_full(STDIN_FILENO, &mut input);
-    if count > 0 {
-        read_case(&input[..count]);
-        walk_case(&input[..count]);
-    }
-}
+// The program cases: runs the paper's cases that are not starred, and some of docs/DECISIONS.md, and prints what came; then it reads and
+// walks what stands on standard input, if anything does.
+mod reading_cases;
+mod record_cases;
+mod say;
+mod writing_cases;
 
 fn main() {
-    paper_reading_cases();
-    decision_cases();
-    listing_cases();
-    input_cases();
+    reading_cases::paper_cases();
+    reading_cases::decision_cases();
+    reading_cases::listing_cases();
+    writing_cases::paper_cases();
+    writing_cases::encapsulation_cases();
+    writing_cases::space_cases();
+    record_cases::writing_cases();
+    record_cases::reading_cases();
+    record_cases::file_cases();
+    reading_cases::input_cases();
 }

@@ -1,5 +1,4 @@
 pub mod Answers
-pub mod Puts
 pub mod Decimal
 pub mod Numbers
 pub mod Short

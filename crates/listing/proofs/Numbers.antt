@@ -6,7 +6,7 @@ use native.Mathlib.Omega.{arith}
 use lib.ListN.{length, take, drop, getD, length-append, take-append-drop}
 use lib.Seq.{take-suc}
 use Rattle.listing.specs.Text.{number, numbers}
-use Rattle.listing.proofs.Puts.{Fits}
+use Rattle.octets.proofs.Puts.{Fits}
 
 numbers-append : (a b : List ℕ) → numbers (a ++ b) ≡ numbers a ++ numbers b
 unfolding numbers

@@ -7,8 +7,8 @@ use native.Mathlib.Nat.{zero-add}
 use native.Mathlib.Omega.{arith}
 use lib.ListN.{length, take, drop, length-append, take-append-drop}
 use lib.Seq.{drop-drop}
-use Rattle.listing.specs.Text.{put}
-use Rattle.listing.proofs.Puts.{Wrote, Fits, put-length, take-put, drop-put}
+use Rattle.octets.specs.Output.{put}
+use Rattle.octets.proofs.Puts.{Wrote, Fits, put-length, take-put, drop-put}
 
 -- `out` is d with the front of `text` in it, up to index `to`; `rest` is left
 pub record Underway (d out : List ℕ) (to : ℕ) (rest text : List ℕ) : Type 0 where

@@ -1,10 +1,9 @@
--- Text as octets: ASCII codes, numbers in decimal, and a list with some text put into it.
+-- Text as octets: ASCII codes, and numbers in decimal.
 use Prim.Native.Nat.{ℕ, zero, suc, _+_, _/_, _%_}
 use Prim.Native.Char.{code}
 use Prim.Native.String as S
 use mathlib.Core.List.{List, [], _∷_, _++_}
 use mathlib.Core.Bool.{cond}
-use lib.ListN.{length, take, drop}
 use lib.Dec.{ltb}
 
 abbrev pub ascii : S.String → List ℕ
@@ -31,7 +30,3 @@ number n = ascii " " ++ decimal n
 unfoldable pub numbers : List ℕ → List ℕ
 numbers [] = []
 numbers (n ∷ ns) = number n ++ numbers ns
-
--- d with text in it from index at on
-unfoldable pub put : List ℕ → ℕ → List ℕ → List ℕ
-put d at text = take at d ++ text ++ drop (at + length text) d

@@ -7,7 +7,7 @@ ghost use Prim.Native.Nat.{_≤_};
 ghost use lib.Dec.{leb};
 ghost use denote.Ref.{ptr};
 ghost use lib.ListN.{length, take};
-ghost use Rattle.listing.specs.Text.{put as puts};
+ghost use Rattle.octets.specs.Output.{put as puts};
 ghost use Rattle.listing.specs.Listing.{listing, recordingText};
 ghost use Rattle.listing.specs.Told.{told, listed, after, octetsOf};
 use lines::put_end;

@@ -2,7 +2,7 @@
 ghost use mathlib.Core.Path.{_≡_};
 ghost use Prim.Native.Nat.{_+_, _≤_};
 ghost use lib.ListN.{length};
-ghost use Rattle.listing.specs.Text.{put as puts};
+ghost use Rattle.octets.specs.Output.{put as puts};
 ghost use Rattle.listing.specs.Listing.{lineEnd, line, endLine};
 ghost use Rattle.listing.specs.Lines.{lineOf};
 use crate::text::put;

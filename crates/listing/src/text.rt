@@ -2,7 +2,9 @@
 ghost use mathlib.Core.Path.{_≡_};
 ghost use Prim.Native.Nat.{_+_, _≤_};
 ghost use lib.ListN.{length};
-ghost use Rattle.listing.specs.Text.{decimal, number, numbers, put as puts};
+ghost use Rattle.octets.specs.Output.{put as puts};
+ghost use Rattle.listing.specs.Text.{decimal, number, numbers};
+use octets::put_octets;
 
 // Puts text into out from index at on.
 pub(crate) fn put(out: &mut [u8], at: usize, text: &[u8]) -> usize
@@ -10,9 +12,8 @@ pub(crate) fn put(out: &mut [u8], at: usize, text: &[u8]) -> usize
     ensures { λ r. ⌜ r ≡ at + length (now (text .entry)) ⌝ }
     ensures { λ _. ⌜ now (out .exit) ≡ puts (now (out .entry)) at (now (text .entry)) ⌝ }
 {
-    let end = at + text.len();
-    bytes::copy(text, &mut out[at..end]);
-    end
+    put_octets(out, at, text);
+    at + text.len()
 }
 
 // Puts n in decimal.

@@ -1,2 +1,5 @@
 pub mod Order
 pub mod PastTheEnd
+pub mod Puts
+pub mod Writers
+pub mod Again

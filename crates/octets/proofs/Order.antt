@@ -1,7 +1,57 @@
--- A test has two outcomes: what a proof needs to follow an order of refusals.
-use mathlib.Core.Path.{_≡_, refl}
-use mathlib.Core.Bool.{Bool, true, false}
+-- A test has two outcomes: what a proof needs to follow an order of refusals; and an answer is given exactly when it has its cause.
+use Prim.Native.Nat.{ℕ, _<_}
+use mathlib.Core.Path.{_≡_, refl, sym, subst}
+use mathlib.Core.List.{List, [], _∷_}
+use mathlib.Core.Bool.{Bool, true, false, _&&_, _||_, true≢false}
+use native.Mathlib.Omega.{arith}
+use borrow.Author.Tests.{eq-eqb, ne-eqb, eqb-true, eqb-false}
+use lib.Dec.{eqb}
+use Rattle.octets.specs.Order.{answer, unlessRefused, Test, _gives_, first, Because, none, holds, fails}
 
 pub either : {A : Type 0} (b : Bool) → (b ≡ true → A) → (b ≡ false → A) → A
 either true f g = f refl
 either false f g = g refl
+
+-- a test that joins two
+pub neither : (a b : Bool) → a || b ≡ false → (a ≡ false) × (b ≡ false)
+neither true b e = absurd (true≢false e)
+neither false b e = (refl, e)
+
+pub both : (a b : Bool) → a && b ≡ true → (a ≡ true) × (b ≡ true)
+both true b e = (refl, e)
+both false b e = absurd (true≢false (sym e))
+
+module _ {A : Type 0} (otherwise : A) where
+  given : (tests : List (Test A)) (a : A) → Because otherwise tests a → first otherwise tests ≡ a
+  given [] a none = refl
+  given ((b gives c) ∷ tests) a (holds e) = simp e
+  given ((b gives c) ∷ tests) a (fails e why) = simp e (given tests a why)
+
+  verdict : (tests : List (Test A)) → Because otherwise tests (first otherwise tests)
+  verdict [] = none
+  verdict ((true gives c) ∷ tests) = holds refl
+  verdict ((false gives c) ∷ tests) = fails refl (verdict tests)
+
+  -- the law, for every order of refusals
+  pub exactly : (tests : List (Test A)) (a : A) → (first otherwise tests ≡ a → Because otherwise tests a) × (Because otherwise tests a → first otherwise tests ≡ a)
+  exactly tests a = (λ e. subst (Because otherwise tests) e (verdict tests), given tests a)
+
+-- ---- what was told says whether the call refused
+module _ (refusal : ℕ) (values : List ℕ) where
+  pub tells-values : (told : List ℕ) → 0 ∷ told ≡ answer refusal values → (refusal ≡ 0) × (told ≡ values)
+  tells-values told e =
+      either (eqb refusal 0) (λ t. (eqb-true refusal 0 t, let z = simp t at e in cc))
+      (λ f. absurd (eqb-false refusal 0 f (let z = simp f at e in cc)))
+
+  pub tells-refusal : (v number : ℕ) (rest : List ℕ) → values ≡ v ∷ rest → number ∷ [] ≡ answer refusal values → (refusal ≡ number) × (0 < refusal)
+  tells-refusal v number rest some e =
+      either (eqb refusal 0) (λ t. let z : _≡_ {A = ℕ} 0 1 = (let y = simp t at e in cc) in absurd (omega arith))
+      (λ f. (let z = simp f at e in cc, omega (arith, eqb-false refusal 0 f)))
+
+-- ---- the two ways in which something lent ends
+module _ {A : Type 0} (refusal : ℕ) (new old : A) where
+  pub set-anew : (x : A) → refusal ≡ 0 → x ≡ new → (0 ≡ refusal) × (x ≡ unlessRefused refusal new old)
+  set-anew x r e = (sym r, simp (eq-eqb refusal 0 r) e)
+
+  pub kept : (number : ℕ) → (refusal ≡ number) × (0 < refusal) → (number ≡ refusal) × (old ≡ unlessRefused refusal new old)
+  kept number (r, some) = (sym r, simp (ne-eqb refusal 0 (λ z. omega arith)))

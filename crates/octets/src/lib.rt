@@ -1,6 +1,11 @@
-// Numbers in a slice of octets, the highest octet first. Every reader is total: past the end an octet reads as 0, so no caller owes an index.
+// Numbers in a slice of octets, the highest octet first. Every function is total, so no caller owes an index: past the end an octet reads as
+// 0, and what does not fit is not put.
 ghost use mathlib.Core.Path.{_≡_};
-ghost use Rattle.octets.specs.Octets.{octet, be16, be32};
+ghost use mathlib.Core.List.{[], _∷_};
+ghost use Prim.Native.Nat.{_+_};
+ghost use lib.Dec.{leb};
+ghost use Rattle.octets.specs.Octets.{octet, be16, be32, octets2, octets4};
+ghost use Rattle.octets.specs.Output.{putIfFits};
 
 // The octet at index k.
 pub fn octet_at(s: &[u8], k: usize) -> u8
@@ -28,5 +33,51 @@ pub fn be32_at(s: &[u8], k: usize) -> u32
         be16_at(s, k) as u32 * 65536 + be16_at(s, k + 2) as u32
     } else {
         0
+    }
+}
+
+// Whether n octets from index at on lie within a length.
+fn has_room(length: usize, at: usize, n: usize) -> bool
+    ensures { λ r. ⌜ r ≡ leb (at + n) length ⌝ }
+{
+    if n <= length { at <= length - n } else { false }
+}
+
+// Puts text into out from index at on, if it fits.
+pub fn put_octets(out: &mut [u8], at: usize, text: &[u8])
+    ensures { λ _. ⌜ now (out .exit) ≡ putIfFits (now (out .entry)) at (now (text .entry)) ⌝ }
+{
+    if has_room(out.len(), at, text.len()) {
+        let end = at + text.len();
+        bytes::copy(text, &mut out[at..end]);
+    }
+}
+
+// Puts one octet at index at, if it fits.
+pub fn put_octet(out: &mut [u8], at: usize, n: u8)
+    ensures { λ _. ⌜ now (out .exit) ≡ putIfFits (now (out .entry)) at (n ∷ []) ⌝ }
+{
+    if at < out.len() {
+        out[at] = n;
+    }
+}
+
+// Puts the two octets of n from index at on, if they fit.
+pub fn put_be16(out: &mut [u8], at: usize, n: u16)
+    ensures { λ _. ⌜ now (out .exit) ≡ putIfFits (now (out .entry)) at (octets2 n) ⌝ }
+{
+    if has_room(out.len(), at, 2) {
+        out[at] = (n / 256 % 256) as u8;
+        out[at + 1] = (n % 256) as u8;
+    }
+}
+
+// Puts the four octets of n from index at on, if they fit.
+pub fn put_be32(out: &mut [u8], at: usize, n: u32)
+    ensures { λ _. ⌜ now (out .exit) ≡ putIfFits (now (out .entry)) at (octets4 n) ⌝ }
+{
+    if has_room(out.len(), at, 4) {
+        put_be16(out, at, (n / 65536) as u16);
+        put_be16(out, at + 2, (n % 65536) as u16);
     }
 }

@@ -4,7 +4,7 @@ use mathlib.Core.List.{List, [], _∷_, _++_}
 use mathlib.Core.Bool.{Bool, cond, not, _||_}
 use lib.ListN.{length, take, drop}
 use lib.Dec.{ltb, eqb}
-use Rattle.octets.specs.Order.{Test, _gives_, first}
+use Rattle.octets.specs.Order.{Test, _gives_, first, answer}
 use Rattle.packet.specs.Space.{version, packetType, secondary, apid, flags, count, spaceHeader, dataOctets, spaceSize, flaggedIdle}
 use Rattle.packet.specs.Encapsulation.{protocol, encapHeader, user, extension, encapSize, misnamed, emptyNamed}
 
@@ -56,7 +56,7 @@ fields s =
 
 -- what reading tells: 0 and the fields, or the refusal
 unfoldable pub reading : List ℕ → List ℕ
-reading s = cond (eqb (refusal s) 0) (0 ∷ fields s) (refusal s ∷ [])
+reading s = answer (refusal s) (fields s)
 
 -- the data field or the content, and where it begins; an empty part at the front where the packet is refused
 unfoldable pub content : List ℕ → List ℕ

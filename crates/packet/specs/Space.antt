@@ -35,6 +35,9 @@ dataOctets s = be16 s 4 + 1
 abbrev pub spaceSize : List ℕ → ℕ
 spaceSize s = spaceHeader + dataOctets s
 
--- APID 2047 is idle and never has the secondary header flag
+-- APID 2047 is idle and never has the secondary header flag: of APID a and flag x
+abbrev pub flagsIdle : ℕ → ℕ → Bool
+flagsIdle a x = eqb a 2047 && eqb x 1
+
 abbrev pub flaggedIdle : List ℕ → Bool
-flaggedIdle s = eqb (apid s) 2047 && eqb (secondary s) 1
+flaggedIdle s = flagsIdle (apid s) (secondary s)

@@ -4,10 +4,14 @@
 //! the data. So that these too can be compared on any octets, an input given
 //! here is one more case.
 
-use crate::hex;
+mod records;
+mod writing;
+
+use crate::hex::{self, after_blanks};
 use crate::lister::listing;
 use crate::reader::{read, Packet, Refusal};
 use crate::walk::outcome;
+use std::sync::OnceLock;
 
 /// Of a longer input only so many octets count.
 pub const LONGEST_CASE: usize = 4_096;
@@ -51,10 +55,16 @@ pub const LISTING: &[&str] = &["00 2A C0 05 00 01 AA BB E0 E9 05 11 22 33 00 2A"
 /// The fixed cases with their answers, then those about the input, if there is
 /// one; each line with its newline.
 pub fn text(input: &[u8]) -> String {
+    // Thousands of inputs are compared, and these are the same for each.
+    static FIXED: OnceLock<String> = OnceLock::new();
+    FIXED.get_or_init(fixed_cases).clone() + &input_cases(input)
+}
+
+fn fixed_cases() -> String {
     let reading = READING.iter().map(|case| reading_case(&hex::octets(case)));
     let listing = LISTING.iter().map(|case| listing_case(&hex::octets(case)));
-    let fixed: String = reading.chain(listing).collect();
-    fixed + &input_cases(input)
+    let lines: String = reading.chain(listing).collect();
+    lines + &writing::cases() + &records::cases()
 }
 
 /// The front of the input as a reading case, and where a walk over it ends.
@@ -104,11 +114,6 @@ fn answer(answer: &Result<Packet<'_>, Refusal>) -> String {
     }
 }
 
-/// A blank before each octet, so that no octets leave no trailing blank.
-fn after_blanks(octets: &[u8]) -> String {
-    octets.iter().map(|octet| format!(" {octet:02x}")).collect()
-}
-
 #[cfg(test)]
 mod tests {
     use super::*;
@@ -139,9 +144,15 @@ mod tests {
 
     #[test]
     fn as_many_cases_as_were_named() {
-        assert_eq!(text(&[]).matches("read ").count(), 15);
-        assert_eq!(text(&[]).matches("list").count(), 3);
-        assert_eq!(text(&[]).matches("walk").count(), 0);
+        let text = text(&[]);
+        let starting = |start: &str| text.lines().filter(|line| line.starts_with(start)).count();
+        assert_eq!(starting("read record"), 5 + 6);
+        assert_eq!(starting("read"), 15 + 5 + 6);
+        assert_eq!(starting("list"), 3);
+        assert_eq!(starting("write encap "), 6 + 15);
+        assert_eq!(starting("write space "), 16);
+        assert_eq!(starting("write record "), 16);
+        assert_eq!(starting("walk"), 0);
     }
 
     /// What is printed after the fixed cases, as lines.

@@ -8,7 +8,7 @@ use crate::bits::BitWriter;
 /// Octets of the Encapsulation Packet's header for each length of length.
 const HEADER_OCTETS: [usize; 4] = [1, 2, 4, 8];
 
-#[derive(Clone, Copy, Default)]
+#[derive(Debug, Clone, Copy, Default, PartialEq, Eq)]
 pub struct SpaceHead {
     pub packet_type: u32,
     pub secondary: u32,
@@ -18,6 +18,16 @@ pub struct SpaceHead {
 }
 
 impl SpaceHead {
+    pub fn new([packet_type, secondary, apid, flags, count]: [u32; 5]) -> Self {
+        SpaceHead {
+            packet_type,
+            secondary,
+            apid,
+            flags,
+            count,
+        }
+    }
+
     /// A packet whose length field tells the truth. The data isn't empty.
     pub fn with(&self, data: &[u8]) -> Vec<u8> {
         self.claiming(data.len(), data)

@@ -1,9 +1,9 @@
 //! The inputs on which two programs are compared. They are the same in every run.
 
-mod chance;
+pub(crate) mod chance;
 mod exact;
 mod limits;
-mod packets;
+pub(crate) mod packets;
 mod single;
 
 use std::collections::HashSet;

@@ -1,22 +1,21 @@
-//! An independent second program beside the intake.
+//! The program `second`: lists, prints the cases, and compares another
+//! program's listings and cases with its own.
 //!
-//! It rests on the paper's rules alone and shares no line with the intake, so
-//! that a mistake in one of them shows as a difference between the two.
+//! - `second list` lists standard input;
+//! - `second cases` prints the fixed cases (reading, listing, writing, records)
+//!   with their answers, then those about standard input;
+//! - `second compare PROGRAM` and `second compare-cases PROGRAM` run a program
+//!   that should print what `list` or `cases` does, on thousands of inputs.
+//!
+//! Beside it, the program `calls` compares the C library's functions by calling
+//! them.
 
-mod bits;
-mod cases;
-mod compare;
-mod forge;
-mod hex;
-mod inputs;
-mod lister;
-mod random;
-mod reader;
-mod walk;
-
+use second::compare::{self, Comparison};
+use second::ending::ending;
+use second::{cases, lister};
 use std::env;
 use std::ffi::OsString;
-use std::io::{self, Read, Write};
+use std::io::{self, Read};
 use std::process::ExitCode;
 
 const USAGE: &str = "usage: second list | second cases | \
@@ -26,10 +25,14 @@ fn main() -> ExitCode {
     let words: Vec<OsString> = env::args_os().skip(1).collect();
     let command = words.first().and_then(|word| word.to_str());
     match (command, words.len()) {
-        (Some("list"), 1) => printed(answer(lister::listing)),
-        (Some("cases"), 1) => printed(answer(cases::text)),
-        (Some("compare"), 2..) => compared(compare::compare_listings(&words[1..]), "listed"),
-        (Some("compare-cases"), 2..) => compared(compare::compare_cases(&words[1..]), "read"),
+        (Some("list"), 1) => ending(answer(lister::listing)),
+        (Some("cases"), 1) => ending(answer(cases::text)),
+        (Some("compare"), 2..) => {
+            ending(compared(compare::compare_listings(&words[1..]), "listed"))
+        }
+        (Some("compare-cases"), 2..) => {
+            ending(compared(compare::compare_cases(&words[1..]), "read"))
+        }
         _ => {
             eprintln!("{USAGE}");
             ExitCode::from(2)
@@ -37,8 +40,9 @@ fn main() -> ExitCode {
     }
 }
 
-fn answer(text: fn(&[u8]) -> String) -> io::Result<()> {
-    print(&text(&input()?))
+fn answer(text: fn(&[u8]) -> String) -> Result<String, String> {
+    let octets = input().map_err(|error| format!("second: {error}"))?;
+    Ok(text(&octets))
 }
 
 /// Standard input, kept only as far as is needed to see that it is too long to
@@ -53,28 +57,6 @@ fn input() -> io::Result<Vec<u8>> {
     Ok(octets)
 }
 
-fn print(text: &str) -> io::Result<()> {
-    let mut stdout = io::stdout().lock();
-    stdout.write_all(text.as_bytes())?;
-    stdout.flush()
-}
-
-fn printed(outcome: io::Result<()>) -> ExitCode {
-    match outcome {
-        Ok(()) => ExitCode::SUCCESS,
-        Err(error) => {
-            eprintln!("second: {error}");
-            ExitCode::FAILURE
-        }
-    }
-}
-
-fn compared(comparison: compare::Comparison, done: &str) -> ExitCode {
-    match comparison {
-        Ok(inputs) => printed(print(&format!("{inputs} inputs {done} alike\n"))),
-        Err(difference) => {
-            eprintln!("{}", difference.trim_end());
-            ExitCode::FAILURE
-        }
-    }
+fn compared(comparison: Comparison, done: &str) -> Result<String, String> {
+    comparison.map(|inputs| format!("{inputs} inputs {done} alike\n"))
 }

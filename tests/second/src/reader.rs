@@ -124,7 +124,7 @@ fn read_encap(mut bits: BitReader<'_>) -> Result<Encap<'_>, Refusal> {
 }
 
 /// Refuses with the number of the first ground that holds.
-fn first_ground(grounds: &[(u8, bool)]) -> Result<(), Refusal> {
+pub fn first_ground(grounds: &[(u8, bool)]) -> Result<(), Refusal> {
     match grounds.iter().find(|(_, holds)| *holds) {
         Some((number, _)) => Err(Refusal(*number)),
         None => Ok(()),

@@ -29,7 +29,7 @@ pub fn damaged_runs() -> Inputs {
 }
 
 /// Turns one bit over, or puts any other octet in an octet's place.
-fn damage(random: &mut Random, input: &mut [u8]) {
+pub fn damage(random: &mut Random, input: &mut [u8]) {
     let place = random.between(0, input.len() - 1);
     let turned = 1 << random.below(8);
     let other = random.between(1, 255) as u8;

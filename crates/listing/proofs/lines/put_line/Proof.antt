@@ -3,7 +3,7 @@ use mathlib.Core.List.{_++_}
 use denote.Ref.{now}
 use Rattle.listing.specs.Text.{decimal}
 use Rattle.listing.specs.Listing.{lineEnd, line}
-use Rattle.listing.proofs.Puts.{room, room-after, more}
+use Rattle.octets.proofs.Puts.{room, room-after, more}
 use borrow.Author.Needs.{needs}
 use Rattle.listing.proofs.lines.put_line.Statement.{statement}
 use Rattle.listing.proofs.lines.put_line.Tie as tie

@@ -2,7 +2,7 @@
 use denote.Ref.{now}
 use Rattle.listing.specs.Text.{ascii, numbers}
 use Rattle.listing.specs.Listing.{lineEnd}
-use Rattle.listing.proofs.Puts.{room, room-after, more}
+use Rattle.octets.proofs.Puts.{room, room-after, more}
 use borrow.Author.Needs.{needs}
 use Rattle.listing.proofs.lines.put_line_end.Statement.{statement}
 use Rattle.listing.proofs.lines.put_line_end.Tie as tie

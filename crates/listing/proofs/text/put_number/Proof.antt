@@ -1,7 +1,7 @@
 -- The blank and the digits are put one after the other.
 use denote.Ref.{now}
 use Rattle.listing.specs.Text.{ascii, decimal, number}
-use Rattle.listing.proofs.Puts.{room, room-after, more}
+use Rattle.octets.proofs.Puts.{room, room-after, more}
 use borrow.Author.Needs.{needs}
 use Rattle.listing.proofs.text.put_number.Statement.{statement}
 use Rattle.listing.proofs.text.put_number.Tie as tie

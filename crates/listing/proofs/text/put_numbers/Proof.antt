@@ -8,7 +8,7 @@ use denote.Ref.{now}
 use lib.ListN.{length, take, getD}
 use lib.Seq.{take-all}
 use Rattle.listing.specs.Text.{number, numbers}
-use Rattle.listing.proofs.Puts.{Wrote, nothing, room-after, more}
+use Rattle.octets.proofs.Puts.{Wrote, nothing, room-after, more}
 use Rattle.listing.proofs.Numbers.{one-more, one-fits}
 use Rattle.listing.proofs.text.put_numbers.Statement.{statement}
 use Rattle.listing.proofs.text.put_numbers.Tie as tie

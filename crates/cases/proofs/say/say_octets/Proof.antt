@@ -2,8 +2,8 @@
 use Prim.Native.Nat.{_≤_, _-_}
 use lib.ListN.{length}
 use borrow.Author.Needs.{needs}
-use Rattle.cases.proofs.say_octets.Statement.{statement}
-use Rattle.cases.proofs.say_octets.Tie as tie
+use Rattle.cases.proofs.say.say_octets.Statement.{statement}
+use Rattle.cases.proofs.say.say_octets.Tie as tie
 
 abbrev Inv-loop : tie.InvT-loop
 Inv-loop s i₀ i = i ≤ length s

@@ -1,0 +1,43 @@
+# The C library: `make` builds the archive and the examples, `make install` puts the library where C compilers and pkg-config look for it.
+PREFIX ?= /usr/local
+INCLUDEDIR ?= $(PREFIX)/include
+LIBDIR ?= $(PREFIX)/lib
+INSTALL ?= install
+CFLAGS ?= -O2 -Wall -Wextra
+
+archive := target/staticlib/libbranmuslin.a
+header := include/branmuslin.h
+examples := $(patsubst examples/%.c,target/examples/%,$(wildcard examples/*.c))
+release = $(shell sed -n 's/^.define BRANMUSLIN_RELEASE "\(.*\)"/\1/p' $(header))
+include_to = $(DESTDIR)$(INCLUDEDIR)
+lib_to = $(DESTDIR)$(LIBDIR)
+no_rt := the library is not built from these sources, and the Rattle toolchain (the command rt) is not installed
+
+.PHONY: all install uninstall clean
+.DELETE_ON_ERROR:
+
+all: $(archive) $(examples)
+
+# The archive gets the time at which its proving began, so that a file changed meanwhile counts as newer.
+$(archive): crates.txt $(shell find crates)
+	$(if $(shell command -v rt 2>&1),,$(error $(no_rt)))
+	@mkdir -p target && touch target/staticlib.begun
+	rt staticlib branmuslin
+	@touch -c -r target/staticlib.begun $@ && rm -f target/staticlib.begun
+
+target/examples/%: examples/%.c $(header) $(archive)
+	@mkdir -p $(@D)
+	$(CC) -Iinclude $(CPPFLAGS) $(CFLAGS) $(LDFLAGS) -o $@ $< $(archive)
+
+install: $(archive)
+	$(INSTALL) -d '$(include_to)' '$(lib_to)/pkgconfig'
+	$(INSTALL) -m 644 $(header) '$(include_to)/branmuslin.h'
+	$(INSTALL) -m 644 $(archive) '$(lib_to)/libbranmuslin.a'
+	sed 's|@PREFIX@|$(PREFIX)|; s|@INCLUDEDIR@|$(INCLUDEDIR)|; s|@LIBDIR@|$(LIBDIR)|; s|@RELEASE@|$(release)|' branmuslin.pc.in >'$(lib_to)/pkgconfig/branmuslin.pc'
+	chmod 644 '$(lib_to)/pkgconfig/branmuslin.pc'
+
+uninstall:
+	rm -f '$(include_to)/branmuslin.h' '$(lib_to)/libbranmuslin.a' '$(lib_to)/pkgconfig/branmuslin.pc'
+
+clean:
+	rm -rf target/examples $(archive) target/staticlib.begun

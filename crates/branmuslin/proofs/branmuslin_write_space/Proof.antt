@@ -1,0 +1,33 @@
+-- What the writer told says how it ended.
+use mathlib.Core.Path.{sym, ap, _∙_}
+use denote.Ref.{now}
+use lib.ListN.{length}
+use Rattle.octets.proofs.Writers.{told-octets, told-refusal}
+use Rattle.writing.specs.Space.{spaceOctets, spaceRefusal}
+use Rattle.writing.specs.Told.{told}
+use borrow.Author.Needs.{needs}
+use Rattle.branmuslin.proofs.branmuslin_write_space.Statement.{statement}
+use Rattle.branmuslin.proofs.branmuslin_write_space.Tie as tie
+
+returns : tie.Need-returns
+returns c =
+    let wrote = c .before .before .before .before .before .write-space in
+    let a = c .before .before .before .before .before .before .before .before .before .args in
+    let ends =
+    told-octets (spaceRefusal (a .kind) (a .secondary) (a .apid) (a .flags) (a .count) (length (now (a .field))) (length (now (a .out))))
+    (spaceOctets (a .kind) (a .secondary) (a .apid) (a .flags) (a .count) (now (a .field))) (now (a .written)) _
+    (sym (ap told (c .before .w .given .1)) ∙ wrote .ensures .0) in
+    (ends .0, (wrote .ensures .1, ends .1))
+
+returns-2 : tie.Need-returns-2
+returns-2 c =
+    let wrote = c .before .before .before .before .before .write-space in
+    let a = c .before .before .before .before .before .before .before .before .before .args in
+    let ends =
+    told-refusal (spaceRefusal (a .kind) (a .secondary) (a .apid) (a .flags) (a .count) (length (now (a .field))) (length (now (a .out))))
+    (spaceOctets (a .kind) (a .secondary) (a .apid) (a .flags) (a .count) (now (a .field))) (now (a .written)) _
+    (sym (ap told (c .before .w2 .given .1)) ∙ wrote .ensures .0) in
+    (ends .0, (wrote .ensures .1, ends .1))
+
+pub branmuslin-write-space-spec : {M : Type 1} → statement M
+branmuslin-write-space-spec = tie.close (tie.spec (λ c κs. search needs) (λ c. search needs) (λ c. search needs) (λ c. search needs) returns (λ c. search needs) returns-2)

@@ -1,0 +1,12 @@
+-- A part up to n that lies within has n octets.
+use native.Mathlib.Omega.{arith}
+use lib.ListN.{length-take}
+use borrow.Author.Needs.{needs}
+use Rattle.cases.proofs.say.lend.Statement.{statement}
+use Rattle.cases.proofs.say.lend.Tie as tie
+
+slice-aggregate-result : tie.Need-slice-aggregate-result
+slice-aggregate-result c = simp length-take (omega arith)
+
+pub lend-spec : {M : Type 1} → statement M
+lend-spec = tie.close (tie.spec slice-aggregate-result (λ c. search needs) (λ c. search needs))

@@ -1,0 +1,62 @@
+-- Each way in which reading or writing a record ends, from the tests that led there.
+use Prim.Native.Nat.{ℕ, _%_, _≤_, _<_}
+use mathlib.Core.Path.{_≡_}
+use mathlib.Core.List.{List, [], _∷_}
+use mathlib.Core.Bool.{true, false}
+use borrow.Author.Tests.{eq-eqb, ne-eqb, lt-ltb, le-ltb}
+use lib.ListN.{length}
+use Rattle.record.specs.Record.{recordSize, fieldsIn, possible}
+use Rattle.record.specs.Reading.{possibleAt, recordRefusal, recordReading, recordsIn, impossibleIn, fileRefusal, fileReading}
+use Rattle.record.specs.Writing.{writingRefusal}
+use Rattle.record.specs.Told.{fields, isPossible}
+use Rattle.record.specs.declared.Record.{Record}
+
+-- ---- a struct with the fields of some octets is possible where they are
+pub possible-in : (r : Record) (s : List ℕ) → fields r ≡ fieldsIn s → isPossible r ≡ possibleAt s
+unfolding possibleAt
+possible-in r s e = cc
+
+-- ---- reading one record
+module _ (s : List ℕ) where
+  pub not-20 : (length s ≡ recordSize → ⊥) → 26 ∷ [] ≡ recordReading s
+  unfolding recordReading recordRefusal
+  not-20 h = simp (ne-eqb (length s) recordSize h)
+
+  module _ (h : length s ≡ recordSize) where
+    pub not-possible : possibleAt s ≡ false → 25 ∷ [] ≡ recordReading s
+    unfolding recordReading recordRefusal
+    not-possible p = simp (eq-eqb (length s) recordSize h, p)
+
+    pub is-read : possibleAt s ≡ true → 0 ∷ fieldsIn s ≡ recordReading s
+    unfolding recordReading recordRefusal
+    is-read p = simp (eq-eqb (length s) recordSize h, p)
+
+-- ---- writing one
+module _ (room apid units packets missing broken : ℕ) where
+  pub no-room : room < recordSize → writingRefusal room apid units packets missing broken ≡ 9
+  unfolding writingRefusal
+  no-room h = simp (lt-ltb room recordSize h)
+
+  module _ (h : recordSize ≤ room) where
+    pub write-impossible : possible apid units packets missing broken ≡ false → writingRefusal room apid units packets missing broken ≡ 25
+    unfolding writingRefusal
+    write-impossible p = simp (le-ltb room recordSize h, p)
+
+    pub is-written : possible apid units packets missing broken ≡ true → writingRefusal room apid units packets missing broken ≡ 0
+    unfolding writingRefusal
+    is-written p = simp (le-ltb room recordSize h, p)
+
+-- ---- reading a file
+module _ (s : List ℕ) where
+  pub ragged : (length s % recordSize ≡ 0 → ⊥) → 26 ∷ [] ≡ fileReading s
+  unfolding fileReading fileRefusal
+  ragged h = simp (ne-eqb (length s % recordSize) 0 h)
+
+  module _ (h : length s % recordSize ≡ 0) where
+    pub one-impossible : impossibleIn s < recordsIn s → 25 ∷ impossibleIn s ∷ [] ≡ fileReading s
+    unfolding fileReading fileRefusal
+    one-impossible l = simp (eq-eqb (length s % recordSize) 0 h, lt-ltb (impossibleIn s) (recordsIn s) l)
+
+    pub all-possible : recordsIn s ≤ impossibleIn s → 0 ∷ recordsIn s ∷ [] ≡ fileReading s
+    unfolding fileReading fileRefusal
+    all-possible l = simp (eq-eqb (length s % recordSize) 0 h, le-ltb (impossibleIn s) (recordsIn s) l)

@@ -1,0 +1,64 @@
+-- An Encapsulation Packet that is not refused: every test of the order failed, so each field is within its width and the packet fits.
+use Prim.Native.Nat.{ℕ, _+_, _≤_, _<_}
+use mathlib.Core.Path.{_≡_}
+use mathlib.Core.List.{List}
+use mathlib.Core.Bool.{false, not, _&&_, _||_}
+use native.Mathlib.Omega.{arith}
+use borrow.Author.Tests.{lt-leb, le-ltb, leb-false, ltb-false}
+use lib.Dec.{eqb, ltb}
+use lib.ListN.{length, length-append}
+use Rattle.octets.proofs.Order.{either, neither}
+use Rattle.packet.specs.Encapsulation.{extendsAnother}
+use Rattle.packet.specs.Reading.{limit}
+use Rattle.writing.specs.Fields.{over}
+use Rattle.writing.specs.Encapsulation.{shortest, headerOctets, encapOctetsWith, encapOctets, encapOver, encapRefusal}
+use Rattle.writing.proofs.Header.{shortest-fits, header-size}
+
+module _ (p u x n room : ℕ) where
+  pub record Fine : Type 0 where
+    pub protocol : p < 8
+    pub user : u < 16
+    pub extension : x < 16
+    pub extends : extendsAnother p x ≡ false
+    pub named : eqb n 0 && not (eqb p 0) ≡ false
+    pub limited : shortest p u n + n ≤ limit
+    pub fits : shortest p u n + n ≤ room
+
+  -- the tests that failed, as facts
+  pub all-failed : encapOver p u x ≡ false → extendsAnother p x ≡ false → eqb n 0 && not (eqb p 0) ≡ false
+      → shortest p u n + n ≤ limit → shortest p u n + n ≤ room → Fine
+  all-failed over′ extends named limited fits =
+      let (pu, x′) = neither (over 3 p || over 4 u) (over 4 x) over′ in
+      let (p′, u′) = neither (over 3 p) (over 4 u) pu in
+      record {
+        protocol = leb-false 8 p p′;
+        user = leb-false 16 u u′;
+        extension = leb-false 16 x x′;
+        extends = extends;
+        named = named;
+        limited = limited;
+        fits = fits;
+      }
+
+  pub fine : encapRefusal p u x n room ≡ 0 → Fine
+  unfolding encapRefusal
+  fine e =
+      either (encapOver p u x) (λ h. absurd (omega (arith, simp h at e)))
+      (λ o. either (extendsAnother p x) (λ h. absurd (omega (arith, simp (o, h) at e)))
+      (λ i. either (eqb n 0 && not (eqb p 0)) (λ h. absurd (omega (arith, simp (o, i, h) at e)))
+      (λ d. either (ltb limit (shortest p u n + n)) (λ h. absurd (omega (arith, simp (o, i, d, h) at e)))
+      (λ l. either (ltb room (shortest p u n + n)) (λ h. absurd (omega (arith, simp (o, i, d, l, h) at e)))
+      (λ r. all-failed o i d (ltb-false limit (shortest p u n + n) l) (ltb-false room (shortest p u n + n) r))))))
+
+  -- the other way round
+  pub accepts : Fine → encapRefusal p u x n room ≡ 0
+  unfolding encapRefusal
+  accepts ok =
+      simp (lt-leb 8 p (ok .protocol), lt-leb 16 u (ok .user), lt-leb 16 x (ok .extension), ok .extends, ok .named, le-ltb limit (shortest p u n + n) (ok .limited), le-ltb room (shortest p u n + n) (ok .fits))
+
+-- the packet's octets
+pub encap-size : (p u x : ℕ) (content : List ℕ) → length (encapOctets p u x content) ≡ shortest p u (length content) + length content
+unfolding encapOctetsWith
+encap-size p u x content =
+    let h = shortest p u (length content) in
+    omega (arith, length-append (headerOctets h p u x (h + length content)) content, header-size (shortest-fits p u (length content)) x (h + length content))

@@ -1,0 +1,9 @@
+pub mod SpaceFine
+pub mod SpaceAgain
+pub mod Header
+pub mod EncapFine
+pub mod EncapRead
+pub mod EncapWrite
+pub mod Shortest
+pub mod RoundTrips
+pub mod Answers

@@ -1,0 +1,5 @@
+pub mod Fields
+pub mod Space
+pub mod Encapsulation
+pub mod Told
+pub mod Carries

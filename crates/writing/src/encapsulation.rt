@@ -1,0 +1,89 @@
+// The Encapsulation Packet's header, refusals and octets.
+ghost use mathlib.Core.Path.{_≡_};
+ghost use Prim.Native.Nat.{_+_, _≤_, _<_};
+ghost use lib.ListN.{length};
+ghost use Rattle.octets.specs.Output.{put as puts};
+ghost use Rattle.packet.specs.Reading.{limit};
+ghost use Rattle.writing.specs.Encapsulation.{shortest, headerOctets, encapRefusal};
+use octets::put_be16;
+use octets::put_be32;
+use octets::put_octet;
+
+// Our limit of octets a packet.
+const LIMIT: usize = 65542;
+
+// The octets of the shortest header that can carry the fields and n octets of content.
+pub(crate) fn shortest_header(protocol: u32, user: u32, n: usize) -> usize
+    ensures { λ r. ⌜ r ≡ shortest protocol user n ⌝ }
+{
+    if (n == 0) & (user == 0) & (protocol == 0) {
+        return 1;
+    }
+    if (user == 0) & (protocol != 6) & (n < 254) {
+        return 2;
+    }
+    if n < 65532 { 4 } else { 8 }
+}
+
+// The refusal for a header and n octets of content, and an output of room octets; or 0.
+pub(crate) fn refusal(
+    protocol: u32,
+    user: u32,
+    extension: u32,
+    header: usize,
+    n: usize,
+    room: usize,
+) -> u8
+    requires { ⌜ header ≡ shortest protocol user n ⌝ }
+    ensures { λ r. ⌜ r ≡ encapRefusal protocol user extension n room ⌝ }
+{
+    if (8 <= protocol) | (16 <= user) | (16 <= extension) {
+        return 8;
+    }
+    if (extension != 0) & (protocol != 6) {
+        return 7;
+    }
+    if (n == 0) & (protocol != 0) {
+        return 6;
+    }
+    if LIMIT - header < n {
+        return 10;
+    }
+    if room < header + n {
+        return 9;
+    }
+    0
+}
+
+// Puts the header, for n octets of content, at the front of out.
+pub(crate) fn put_header(
+    out: &mut [u8],
+    protocol: u32,
+    user: u32,
+    extension: u32,
+    header: usize,
+    n: usize,
+)
+    requires { ⌜ (protocol < 8) × (user < 16) × (extension < 16) ⌝ }
+    requires { ⌜ (header ≡ shortest protocol user n) × (header + n ≤ limit) × (header ≤ length (now out)) ⌝ }
+    ensures { λ _. ⌜ now (out .exit) ≡ puts (now (out .entry)) 0 (headerOctets header protocol user extension (header + n)) ⌝ }
+{
+    let first = 224 + protocol * 4;
+    let second = user * 16 + extension;
+    let size = header + n;
+    if header == 1 {
+        put_octet(out, 0, first as u8);
+    } else if header == 2 {
+        put_octet(out, 0, (first + 1) as u8);
+        put_octet(out, 1, size as u8);
+    } else if header == 4 {
+        put_octet(out, 0, (first + 2) as u8);
+        put_octet(out, 1, second as u8);
+        put_be16(out, 2, size as u16);
+    } else {
+        put_octet(out, 0, (first + 3) as u8);
+        put_octet(out, 1, second as u8);
+        put_be16(out, 2, 0);
+        put_be32(out, 4, size as u32);
+    }
+}

@@ -1,0 +1,165 @@
+/*
+ * branmuslin.h: reads and writes CCSDS Space Packets (133.0-B-2), Encapsulation Packets (133.1-B-2) and credit records.
+ *
+ * A static library for Linux on x86-64; the flags stand after the source files: cc program.c $(pkg-config --cflags --libs branmuslin).
+ * It needs no other library, allocates nothing, keeps nothing between calls and has no state: any thread may call it at any time.
+ *
+ * What holds for every function:
+ *
+ * - It takes every input of every length, and returns. It returns 0, or the number of the refusal (below); where several causes hold, the
+ *   first in the order that stands at the function.
+ * - A call that is refused leaves everything that was lent to it as it was: the output, the struct and every number behind a pointer.
+ *   (One exception, by its purpose: *index of branmuslin_read_record_file, which belongs to refusal 25.)
+ * - Pointers must not be null. A length of 0 needs no valid octets, but a pointer that is not null all the same: what malloc(0) or an empty
+ *   std::vector gives may be null.
+ * - What is lent to one call must not overlap: input, output, struct and numbers are separate pieces of memory. So a packet can't be written in
+ *   place around its data.
+ * - A length counts octets, and that many must be valid behind its pointer. Octets beyond it are neither read nor written.
+ */
+#ifndef BRANMUSLIN_H
+#define BRANMUSLIN_H
+
+#include <stddef.h>
+#include <stdint.h>
+
+#ifdef __cplusplus
+extern "C" {
+#endif
+
+#define BRANMUSLIN_RELEASE "0.1.0"
+
+/* What the functions return: 0, or the refusal. */
+enum {
+    BRANMUSLIN_DONE = 0,           /* nothing was refused */
+    BRANMUSLIN_CUT_SHORT = 1,      /* the octets end before the header or the packet does */
+    BRANMUSLIN_BAD_VERSION = 2,    /* the version is neither 000 nor 111 */
+    BRANMUSLIN_IDLE_FLAGGED = 3,   /* APID 2047 (idle) with the secondary header flag */
+    BRANMUSLIN_UNDER_HEADER = 4,   /* the encapsulation length is less than its header */
+    BRANMUSLIN_OVER_LIMIT = 5,     /* the encapsulation length is over 65,542 */
+    BRANMUSLIN_NO_CONTENT = 6,     /* no content, and the protocol ID is not 0 */
+    BRANMUSLIN_NAMES_NOTHING = 7,  /* protocol ID 6 in a header of 1 or 2 octets; or an extension that is not 0 with another ID; or a
+                                      CCSDS field that is not 0 */
+    BRANMUSLIN_OVER_WIDTH = 8,     /* a field given to a writer is over its width */
+    BRANMUSLIN_NO_ROOM = 9,        /* the output is too short for the packet or record */
+    BRANMUSLIN_DATA_LENGTH = 10,   /* data to write: none, or over 65,536 octets (Space); a packet over 65,542 octets (Encapsulation) */
+    BRANMUSLIN_NOT_POSSIBLE = 25,  /* the record is not possible */
+    BRANMUSLIN_NOT_RECORDS = 26    /* a record file that is not a multiple of 20 octets, or a single record that is not 20 */
+};
+
+/* Octets of the longest packet of either kind, and of a record: an output of these lengths always suffices. */
+#define BRANMUSLIN_LONGEST_PACKET 65542
+#define BRANMUSLIN_RECORD_LENGTH 20
+
+/* The most octets that can be written as the data of a Space Packet, and as the content of an Encapsulation Packet. */
+#define BRANMUSLIN_LONGEST_DATA 65536
+#define BRANMUSLIN_LONGEST_CONTENT 65534
+
+/* What reading a packet tells: eleven numbers of 32 bits, one after another. The packet has offset + length octets in all. */
+struct branmuslin_packet {
+    uint32_t version;   /* 0: a Space Packet; 7: an Encapsulation Packet */
+
+    uint32_t type;      /* of a Space Packet, else 0: 0 telemetry, 1 telecommand */
+    uint32_t secondary; /* the secondary header flag, 0 or 1 */
+    uint32_t apid;      /* 0 to 2047, which is idle */
+    uint32_t flags;     /* sequence flags: 0 continuation, 1 first, 2 last, 3 unsegmented */
+    uint32_t count;     /* sequence count, 0 to 16,383; for type 1 it may be a name */
+
+    uint32_t protocol;  /* of an Encapsulation Packet, else 0: the protocol ID, 0 to 7 */
+    uint32_t user;      /* user field, 0 to 15; 0 where the header has none */
+    uint32_t extension; /* protocol extension, 0 to 15; 0 where the header has none */
+
+    uint32_t offset;    /* of either kind: where the data field or the content begins, which is the header's octets */
+    uint32_t length;    /* octets of the data field or the content */
+};
+
+/*
+ * Reads the packet at the front of the octets; octets after it are not looked at. Its data are the `length` octets from octets + offset on,
+ * and the next packet of a run begins at octets + offset + length:
+ *
+ *     for (at = 0; at < n; at += packet.offset + packet.length)
+ *         if (branmuslin_read_packet(octets + at, n - at, &packet) != BRANMUSLIN_DONE)
+ *             break;
+ *
+ * Returns 0 with *packet set; or 1 to 7, with *packet as it was. The order: 1 for no octets, 2, 1 for the header, then 3 (Space) or 7, 4, 5, 6
+ * (Encapsulation), then 1 for the packet.
+ */
+uint8_t branmuslin_read_packet(const uint8_t *octets, size_t octets_length, struct branmuslin_packet *packet);
+
+/*
+ * Writes a Space Packet at the front of the output: six header octets, then the data, which has 1 to 65,536 octets. The fields are given in
+ * the order in which the header has them.
+ *
+ * Returns 0 with the packet in the output and its octets (6 + data_length) in *written; every octet of the output after the packet stays as it
+ * was. Or returns, in this order, and with the output and *written as they were:
+ *   8   type over 1, secondary over 1, apid over 2,047, flags over 3 or count over 16,383;
+ *   3   apid 2047 with secondary 1;
+ *   10  no data, or over 65,536 octets;
+ *   9   the output is shorter than the packet.
+ */
+uint8_t branmuslin_write_space(uint32_t type, uint32_t secondary, uint32_t apid, uint32_t flags, uint32_t count, const uint8_t *data,
+                               size_t data_length, uint8_t *output, size_t output_length, size_t *written);
+
+/*
+ * Writes an Encapsulation Packet at the front of the output: the shortest header that can carry the fields (1, 2, 4 or 8 octets), then the
+ * content. One octet only for no content, user 0 and protocol 0; at least 4 where user is not 0 or protocol is 6. The CCSDS field is 0.
+ * Protocol 0 (idle) may have content; every other protocol must.
+ *
+ * Returns 0 with the packet in the output and its octets, header and content, in *written; every octet of the output after the packet stays as
+ * it was. Or returns, in this order, and with the output and *written as they were:
+ *   8   protocol over 7, user over 15 or extension over 15;
+ *   7   extension not 0 with a protocol other than 6;
+ *   6   no content and protocol not 0;
+ *   10  the packet would be over 65,542 octets, which is so exactly for content over 65,534;
+ *   9   the output is shorter than the packet.
+ */
+uint8_t branmuslin_write_encapsulation(uint32_t protocol, uint32_t user, uint32_t extension, const uint8_t *content, size_t content_length,
+                                       uint8_t *output, size_t output_length, size_t *written);
+
+/*
+ * A credit record: six numbers of 32 bits, one after another. It is possible if apid is at most 2046, packets at most 262,144, units + broken at
+ * most packets, and missing at most 16,382 x (packets - 1), or 0 if packets is 0.
+ */
+struct branmuslin_record {
+    uint32_t station; /* 0 to 65,535 */
+    uint32_t apid;
+    uint32_t units;
+    uint32_t packets;
+    uint32_t missing;
+    uint32_t broken;
+};
+
+/*
+ * Writes a record at the front of the output: 20 octets, high octet first: station 2, apid 2, units 4, packets 4, missing 4, broken 4.
+ *
+ * Returns 0 with the record in the output, whose other octets stay as they were. Or returns, in this order, and with the output as it was:
+ *   9   the output is shorter than 20 octets;
+ *   25  the record is not possible.
+ * The parameters have the record's widths, and C cuts a wider number to them without a word: test a station and an apid that come from
+ * elsewhere before you pass them on. Those of a record that was read always fit.
+ */
+uint8_t branmuslin_write_record(uint16_t station, uint16_t apid, uint32_t units, uint32_t packets, uint32_t missing, uint32_t broken,
+                                uint8_t *output, size_t output_length);
+
+/*
+ * Reads one record.
+ *
+ * Returns 0 with *record set. Or returns, in this order, and with *record as it was:
+ *   26  there are not exactly 20 octets;
+ *   25  the record is not possible.
+ */
+uint8_t branmuslin_read_record(const uint8_t *octets, size_t octets_length, struct branmuslin_record *record);
+
+/*
+ * Reads a file of records, one after another; a file of none is good. The record of index i is the 20 octets from octets + 20 * i on.
+ *
+ * Returns 0 with the number of records in *records, and *index as it was. Or returns, in this order, and with *records as it was:
+ *   26  the octets are not a multiple of 20; *index stays as it was too;
+ *   25  some record is not possible; *index is set to the index of the first such record, counted from 0.
+ */
+uint8_t branmuslin_read_record_file(const uint8_t *octets, size_t octets_length, size_t *records, size_t *index);
+
+#ifdef __cplusplus
+}
+#endif
+
+#endif

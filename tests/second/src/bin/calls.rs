@@ -1,0 +1,89 @@
+//! The program `calls`: compares every function that the C archive exports with
+//! this package's own, by calling it.
+//!
+//! It is built with BRANMUSLIN_ARCHIVE set to the archive's whole path. It ends
+//! with status 0 and a line for each function, with 1 at the first
+//! disagreement, or if an answer that a function can give was hardly met.
+
+use std::process::ExitCode;
+
+#[cfg(archive)]
+mod archive {
+    use second::calls::{Library, PacketNumbers, RecordNumbers};
+
+    extern "C" {
+        fn branmuslin_read_packet(
+            octets: *const u8,
+            octets_length: usize,
+            packet: *mut PacketNumbers,
+        ) -> u8;
+
+        fn branmuslin_write_space(
+            packet_type: u32,
+            secondary: u32,
+            apid: u32,
+            flags: u32,
+            count: u32,
+            data: *const u8,
+            data_length: usize,
+            output: *mut u8,
+            output_length: usize,
+            written: *mut usize,
+        ) -> u8;
+
+        fn branmuslin_write_encapsulation(
+            protocol: u32,
+            user: u32,
+            extension: u32,
+            content: *const u8,
+            content_length: usize,
+            output: *mut u8,
+            output_length: usize,
+            written: *mut usize,
+        ) -> u8;
+
+        fn branmuslin_write_record(
+            station: u16,
+            apid: u16,
+            units: u32,
+            packets: u32,
+            missing: u32,
+            broken: u32,
+            output: *mut u8,
+            output_length: usize,
+        ) -> u8;
+
+        fn branmuslin_read_record(
+            octets: *const u8,
+            octets_length: usize,
+            record: *mut RecordNumbers,
+        ) -> u8;
+
+        fn branmuslin_read_record_file(
+            octets: *const u8,
+            octets_length: usize,
+            records: *mut usize,
+            index: *mut usize,
+        ) -> u8;
+    }
+
+    pub const LIBRARY: Library = Library {
+        read_packet: branmuslin_read_packet,
+        write_space: branmuslin_write_space,
+        write_encap: branmuslin_write_encapsulation,
+        write_record: branmuslin_write_record,
+        read_record: branmuslin_read_record,
+        read_file: branmuslin_read_record_file,
+    };
+}
+
+#[cfg(archive)]
+fn main() -> ExitCode {
+    second::ending::ending(second::calls::compare(&archive::LIBRARY))
+}
+
+#[cfg(not(archive))]
+fn main() -> ExitCode {
+    eprintln!("calls: built without an archive; set BRANMUSLIN_ARCHIVE and build again");
+    ExitCode::from(2)
+}

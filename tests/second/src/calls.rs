@@ -1,0 +1,115 @@
+//! Compares a C library with this program's own functions, by calling it.
+//!
+//! Every call is made twice on equal memory, once by the library and once by
+//! this program's own functions; then the numbers returned and the whole of
+//! both memories must be the same.
+
+mod both_ways;
+mod checker;
+mod functions;
+mod inputs;
+mod library;
+mod memory;
+#[cfg(test)]
+mod own;
+#[cfg(test)]
+mod wrong;
+
+pub use library::{Library, PacketNumbers, RecordNumbers};
+
+use crate::random::Random;
+use checker::Checker;
+use functions::read_file::ReadFile;
+use functions::read_packet::ReadPacket;
+use functions::read_record::ReadRecord;
+use functions::write_encap::WriteEncap;
+use functions::write_record::WriteRecord;
+use functions::write_space::WriteSpace;
+
+/// The calls that begin with one function.
+type Part = fn(&mut Checker<'_>) -> Result<(), String>;
+
+const PARTS: [Part; 6] = [
+    write_spaces,
+    write_encaps,
+    read_packets,
+    write_records,
+    read_records,
+    read_files,
+];
+
+/// A line for each function, or the first disagreement.
+pub fn compare(library: &Library) -> Result<String, String> {
+    let mut checker = Checker::new(library);
+    for part in PARTS {
+        part(&mut checker)?;
+    }
+    let functions = [
+        checker.summary::<ReadPacket>()?,
+        checker.summary::<WriteSpace>()?,
+        checker.summary::<WriteEncap>()?,
+        checker.summary::<WriteRecord>()?,
+        checker.summary::<ReadRecord>()?,
+        checker.summary::<ReadFile>()?,
+    ];
+    Ok(functions.concat() + &both_ways::summary(&checker)?)
+}
+
+fn write_spaces(checker: &mut Checker<'_>) -> Result<(), String> {
+    let mut random = Random::new(18);
+    let mut calls = inputs::space::calls().into_iter();
+    calls.try_for_each(|call| both_ways::write_space_and_read(checker, &call, &mut random))
+}
+
+fn write_encaps(checker: &mut Checker<'_>) -> Result<(), String> {
+    let mut random = Random::new(19);
+    let mut calls = inputs::encap::calls().into_iter();
+    calls.try_for_each(|call| both_ways::write_encap_and_read(checker, &call, &mut random))
+}
+
+fn read_packets(checker: &mut Checker<'_>) -> Result<(), String> {
+    let mut inputs = inputs::packets::inputs().into_iter();
+    inputs.try_for_each(|octets| both_ways::read_packet_and_write(checker, &octets))
+}
+
+fn write_records(checker: &mut Checker<'_>) -> Result<(), String> {
+    let mut calls = inputs::records::calls().into_iter();
+    calls.try_for_each(|call| both_ways::write_record_and_read(checker, &call))
+}
+
+fn read_records(checker: &mut Checker<'_>) -> Result<(), String> {
+    let mut inputs = inputs::records::octets().into_iter();
+    inputs.try_for_each(|octets| both_ways::read_record_and_write(checker, &octets))
+}
+
+fn read_files(checker: &mut Checker<'_>) -> Result<(), String> {
+    for octets in inputs::files::files() {
+        checker.check(&ReadFile { octets: &octets })?;
+    }
+    Ok(())
+}
+
+#[cfg(test)]
+mod tests {
+    use super::*;
+
+    #[test]
+    fn this_programs_own_functions_agree_with_themselves() {
+        let summary = compare(&own::library()).expect("they are the same functions");
+        let starts = [
+            "read_packet: ",
+            "write_space: ",
+            "write_encapsulation: ",
+            "write_record: ",
+            "read_record: ",
+            "read_record_file: ",
+        ];
+        for (line, start) in summary.lines().zip(starts) {
+            let calls = line
+                .strip_prefix(start)
+                .and_then(|rest| rest.split_once(" calls agree ("))
+                .map(|(calls, _)| calls.parse::<usize>().expect("a number"));
+            assert!(calls.is_some_and(|calls| calls >= 5_000), "{line}");
+        }
+    }
+}
