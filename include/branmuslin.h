@@ -58,18 +58,21 @@ enum {
 struct branmuslin_packet {
     uint32_t version;   /* 0: a Space Packet; 7: an Encapsulation Packet */
 
-    uint32_t type;      /* of a Space Packet, else 0: 0 telemetry, 1 telecommand */
+    /* The fields of a Space Packet; each is 0 for an Encapsulation Packet. */
+    uint32_t type;      /* 0 telemetry, 1 telecommand */
     uint32_t secondary; /* the secondary header flag, 0 or 1 */
     uint32_t apid;      /* 0 to 2047, which is idle */
     uint32_t flags;     /* sequence flags: 0 continuation, 1 first, 2 last, 3 unsegmented */
     uint32_t count;     /* sequence count, 0 to 16,383; for type 1 it may be a name */
 
-    uint32_t protocol;  /* of an Encapsulation Packet, else 0: the protocol ID, 0 to 7 */
+    /* The fields of an Encapsulation Packet; each is 0 for a Space Packet. */
+    uint32_t protocol;  /* protocol ID, 0 to 7 */
     uint32_t user;      /* user field, 0 to 15; 0 where the header has none */
     uint32_t extension; /* protocol extension, 0 to 15; 0 where the header has none */
 
-    uint32_t offset;    /* of either kind: where the data field or the content begins, which is the header's octets */
-    uint32_t length;    /* octets of the data field or the content */
+    /* Of either: the data field or the content. */
+    uint32_t offset;    /* where it begins, which is the header's octets */
+    uint32_t length;    /* its octets */
 };
 
 /*

@@ -1,28 +1,55 @@
 -- What each case of the reader's answer says is what the struct's numbers become.
-use Prim.Native.Nat.{ℕ}
-use mathlib.Core.Path.{_≡_}
+use Prim.Native.Nat.{ℕ, _+_, _-_}
+use mathlib.Core.Path.{_≡_, sym, ap, _∙_}
 use mathlib.Core.List.{List, [], _∷_}
 use native.Mathlib.Omega.{arith}
 use borrow.Author.Tests.{eq-eqb, ne-eqb}
-use Rattle.octets.specs.Order.{unlessRefused}
+use lib.ListN.{length, drop, length-drop}
+use lib.Seq.{length-take-le}
+use Rattle.octets.specs.Output.{unlessRefused}
 use Rattle.octets.proofs.Order.{set-anew, kept}
-use Rattle.packet.specs.Space.{version}
-use Rattle.packet.specs.Reading.{refusal}
+use Rattle.packet.specs.Space.{version, spaceHeader}
+use Rattle.packet.specs.Reading.{header, size, refusal, content, contentAt}
+use Rattle.packet.specs.Told.{sizeOf, headerOf}
+use Rattle.packet.specs.declared.Packet.{Packet}
 use Rattle.packet.specs.declared.Packet.the-variants.{Space, Encapsulation, Refused}
-use Rattle.packet.proofs.Answers.{Says}
+use Rattle.packet.proofs.Within.{within}
+use Rattle.packet.proofs.Answers.{Says, part-told}
 use Rattle.branmuslin.specs.Lent.{packetNumbers}
+
+-- the data lies after the header, and has as many octets as the reader told
+data-part : (p : Packet) (s : List ℕ) → Says p s → (headerOf p ≡ contentAt s) × (sizeOf p - headerOf p ≡ length (content s))
+data-part p s says =
+    let (least, most, same, at) = part-told p s says in
+    (at, sym (length-take-le (sizeOf p - headerOf p) (drop (headerOf p) s) (rw (length-drop (headerOf p) s) (omega (arith, least, most)))) ∙ ap length same)
 
 module _ (s old : List ℕ) where
   abbrev Ends : ℕ → List ℕ → Type 0
   Ends number numbers = (number ≡ refusal s) × (numbers ≡ unlessRefused (refusal s) (packetNumbers s) old)
 
-  pub of-space : (t x a f c n : ℕ) → Says (Space t x a f c n) s → Ends 0 (0 ∷ t ∷ x ∷ a ∷ f ∷ c ∷ 0 ∷ 0 ∷ 0 ∷ 6 ∷ n ∷ [])
+  pub of-space : (t x a f c n : ℕ) → Says (Space t x a f c n) s → Ends 0 (0 ∷ t ∷ x ∷ a ∷ f ∷ c ∷ 0 ∷ 0 ∷ 0 ∷ spaceHeader ∷ n ∷ [])
   unfolding packetNumbers
-  of-space t x a f c n (r, v, e1, e2, e3, e4, e5, e6) = set-anew (refusal s) (packetNumbers s) old _ r (simp (eq-eqb (version s) 0 v) (cc))
+  of-space t x a f c n says =
+      let (r, v, e1, e2, e3, e4, e5, e6) = says in
+      let (at, rest) = data-part (Space t x a f c n) s says in
+      let octets : n ≡ length (content s) = omega (arith, rest) in
+      set-anew (refusal s) (packetNumbers s) old _ r (simp (eq-eqb (version s) 0 v) (cc))
 
   pub of-encapsulation : (p u x h n : ℕ) → Says (Encapsulation p u x h n) s → Ends 0 (7 ∷ 0 ∷ 0 ∷ 0 ∷ 0 ∷ 0 ∷ p ∷ u ∷ x ∷ h ∷ n ∷ [])
   unfolding packetNumbers
-  of-encapsulation p u x h n (r, v, e1, e2, e3, e4, e5) = set-anew (refusal s) (packetNumbers s) old _ r (simp (ne-eqb (version s) 0 v) (cc))
+  of-encapsulation p u x h n says =
+      let (r, v, e1, e2, e3, e4, e5) = says in
+      let (at, rest) = data-part (Encapsulation p u x h n) s says in
+      let octets : n ≡ length (content s) = omega (arith, rest) in
+      set-anew (refusal s) (packetNumbers s) old _ r (simp (ne-eqb (version s) 0 v) (cc))
 
   pub of-refused : (k : ℕ) → Says (Refused k) s → Ends k old
   of-refused k (r, some) = kept (refusal s) (packetNumbers s) old k (r, omega arith)
+
+-- ---- the law on which a client's loop rests: the packet ends where its data does
+pub ends-with-data : (s : List ℕ) → refusal s ≡ 0 → contentAt s + length (content s) ≡ size s
+unfolding content contentAt
+ends-with-data s e =
+    let w = within s e in
+    simp (eq-eqb (refusal s) 0 e)
+    (omega (arith, w, length-take-le (size s - header s) (drop (header s) s) (rw (length-drop (header s) s) (omega (arith, w)))))

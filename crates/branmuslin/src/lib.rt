@@ -1,20 +1,15 @@
 // The C library: the functions that include/branmuslin.h declares, thin over the proved ones. Each returns the number of the refusal, or 0,
-// and where it refuses leaves everything that was lent to it as it was.
+// and where it refuses leaves everything that was lent to it as it was (but for the index that belongs to refusal 25 of a record file).
 mod numbers;
 
 ghost use mathlib.Core.Path.{_≡_};
-ghost use mathlib.Core.Bool.{cond};
-ghost use lib.Dec.{eqb};
 ghost use lib.ListN.{length};
-ghost use Rattle.octets.specs.Order.{unlessRefused};
-ghost use Rattle.octets.specs.Output.{written as output};
 ghost use Rattle.packet.specs.Reading.{refusal};
-ghost use Rattle.writing.specs.Space.{spaceOctets, spaceRefusal, spaceAfter};
-ghost use Rattle.writing.specs.Encapsulation.{encapOctets, encapRefusal, encapAfter};
-ghost use Rattle.record.specs.Record.{fieldsIn, recordOctets};
-ghost use Rattle.record.specs.Reading.{recordRefusal, recordsIn, impossibleIn, fileRefusal};
-ghost use Rattle.record.specs.Writing.{writingRefusal};
-ghost use Rattle.branmuslin.specs.Lent.{packetNumbers};
+ghost use Rattle.writing.specs.Space.{spaceRefusal, spaceAfter};
+ghost use Rattle.writing.specs.Encapsulation.{encapRefusal, encapAfter};
+ghost use Rattle.record.specs.Reading.{recordRefusal, fileRefusal};
+ghost use Rattle.record.specs.Writing.{writingRefusal, recordAfter};
+ghost use Rattle.branmuslin.specs.Lent.{packetAfter, spaceOctetsAfter, encapOctetsAfter, recordNumbersAfter, recordsAfter, indexAfter};
 use numbers::encapsulation_numbers;
 use numbers::space_numbers;
 use packet::Packet;
@@ -28,7 +23,7 @@ use writing::Written;
 #[no_mangle]
 pub extern "C" fn branmuslin_read_packet(octets: &[u8], numbers: &mut [u32; 11]) -> u8
     ensures { λ r. ⌜ r ≡ refusal (now (octets .entry)) ⌝ }
-    ensures { λ _. ⌜ now (numbers .exit) ≡ unlessRefused (refusal (now (octets .entry))) (packetNumbers (now (octets .entry))) (now (numbers .entry)) ⌝ }
+    ensures { λ _. ⌜ now (numbers .exit) ≡ packetAfter (now (octets .entry)) (now (numbers .entry)) ⌝ }
 {
     let p = packet::read_packet(octets);
     match p {
@@ -71,7 +66,7 @@ pub extern "C" fn branmuslin_write_space(
 ) -> u8
     ensures { λ r. ⌜ r ≡ spaceRefusal kind secondary apid flags count (length (now (field .entry))) (length (now (out .entry))) ⌝ }
     ensures { λ _. ⌜ now (out .exit) ≡ spaceAfter kind secondary apid flags count (now (field .entry)) (now (out .entry)) ⌝ }
-    ensures { λ _. ⌜ now (written .exit) ≡ unlessRefused (spaceRefusal kind secondary apid flags count (length (now (field .entry))) (length (now (out .entry)))) (length (spaceOctets kind secondary apid flags count (now (field .entry)))) (now (written .entry)) ⌝ }
+    ensures { λ _. ⌜ now (written .exit) ≡ spaceOctetsAfter kind secondary apid flags count (now (field .entry)) (now (out .entry)) (now (written .entry)) ⌝ }
 {
     let w = writing::write_space(kind, secondary, apid, flags, count, field, out);
     match w {
@@ -95,7 +90,7 @@ pub extern "C" fn branmuslin_write_encapsulation(
 ) -> u8
     ensures { λ r. ⌜ r ≡ encapRefusal protocol user extension (length (now (content .entry))) (length (now (out .entry))) ⌝ }
     ensures { λ _. ⌜ now (out .exit) ≡ encapAfter protocol user extension (now (content .entry)) (now (out .entry)) ⌝ }
-    ensures { λ _. ⌜ now (written .exit) ≡ unlessRefused (encapRefusal protocol user extension (length (now (content .entry))) (length (now (out .entry)))) (length (encapOctets protocol user extension (now (content .entry)))) (now (written .entry)) ⌝ }
+    ensures { λ _. ⌜ now (written .exit) ≡ encapOctetsAfter protocol user extension (now (content .entry)) (now (out .entry)) (now (written .entry)) ⌝ }
 {
     let w = writing::write_encapsulation(protocol, user, extension, content, out);
     match w {
@@ -118,8 +113,8 @@ pub extern "C" fn branmuslin_write_record(
     broken: u32,
     out: &mut [u8],
 ) -> u8
-    ensures { λ r. ⌜ r ≡ writingRefusal (length (now (out .entry))) apid units packets missing broken ⌝ }
-    ensures { λ _. ⌜ now (out .exit) ≡ output (writingRefusal (length (now (out .entry))) apid units packets missing broken) (recordOctets station apid units packets missing broken) (now (out .entry)) ⌝ }
+    ensures { λ r. ⌜ r ≡ writingRefusal apid units packets missing broken (length (now (out .entry))) ⌝ }
+    ensures { λ _. ⌜ now (out .exit) ≡ recordAfter station apid units packets missing broken (now (out .entry)) ⌝ }
 {
     let w = record::write_record(
         Record {
@@ -142,7 +137,7 @@ pub extern "C" fn branmuslin_write_record(
 #[no_mangle]
 pub extern "C" fn branmuslin_read_record(octets: &[u8], numbers: &mut [u32; 6]) -> u8
     ensures { λ r. ⌜ r ≡ recordRefusal (now (octets .entry)) ⌝ }
-    ensures { λ _. ⌜ now (numbers .exit) ≡ unlessRefused (recordRefusal (now (octets .entry))) (fieldsIn (now (octets .entry))) (now (numbers .entry)) ⌝ }
+    ensures { λ _. ⌜ now (numbers .exit) ≡ recordNumbersAfter (now (octets .entry)) (now (numbers .entry)) ⌝ }
 {
     let read = record::read_record(octets);
     match read {
@@ -169,8 +164,8 @@ pub extern "C" fn branmuslin_read_record_file(
     index: &mut usize,
 ) -> u8
     ensures { λ r. ⌜ r ≡ fileRefusal (now (octets .entry)) ⌝ }
-    ensures { λ _. ⌜ now (records .exit) ≡ unlessRefused (fileRefusal (now (octets .entry))) (recordsIn (now (octets .entry))) (now (records .entry)) ⌝ }
-    ensures { λ _. ⌜ now (index .exit) ≡ cond (eqb (fileRefusal (now (octets .entry))) 25) (impossibleIn (now (octets .entry))) (now (index .entry)) ⌝ }
+    ensures { λ _. ⌜ now (records .exit) ≡ recordsAfter (now (octets .entry)) (now (records .entry)) ⌝ }
+    ensures { λ _. ⌜ now (index .exit) ≡ indexAfter (now (octets .entry)) (now (index .entry)) ⌝ }
 {
     let file = record::read_record_file(octets);
     match file {

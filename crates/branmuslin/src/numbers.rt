@@ -1,10 +1,9 @@
 // The numbers of struct branmuslin_packet, in its order: version; type, secondary, apid, flags, count; protocol, user, extension; offset,
-// length. Those of the other kind are 0.
+// length. Fields that the packet does not have are 0.
 ghost use mathlib.Core.Path.{_≡_};
 ghost use mathlib.Core.List.{[], _∷_};
 ghost use Rattle.packet.specs.Space.{spaceHeader};
-
-const SPACE_HEADER: u32 = 6;
+use packet::SPACE_HEADER;
 
 pub(crate) fn space_numbers(
     kind: u8,
@@ -26,7 +25,7 @@ pub(crate) fn space_numbers(
         0,
         0,
         0,
-        SPACE_HEADER,
+        SPACE_HEADER as u32,
         octets,
     ]
 }

@@ -19,7 +19,23 @@ fn say_record(r: Record) {
 }
 
 // Writes the record into an output of `room` octets, and shows what lies there afterwards.
-fn writing_case(r: Record, room: usize) {
+fn writing_case(
+    station: u16,
+    apid: u16,
+    units: u32,
+    packets: u32,
+    missing: u32,
+    broken: u32,
+    room: usize,
+) {
+    let r = Record {
+        station,
+        apid,
+        units,
+        packets,
+        missing,
+        broken,
+    };
     let mut out = [0xA5u8; 24];
     say(b"write record");
     say_record(r);
@@ -71,182 +87,22 @@ fn file_case(s: &[u8]) {
 }
 
 pub(crate) fn writing_cases() {
-    writing_case(
-        Record {
-            station: 7,
-            apid: 42,
-            units: 2,
-            packets: 3,
-            missing: 1,
-            broken: 0,
-        },
-        24,
-    );
-    writing_case(
-        Record {
-            station: 7,
-            apid: 42,
-            units: 3000,
-            packets: 212,
-            missing: 0,
-            broken: 0,
-        },
-        24,
-    );
-    writing_case(
-        Record {
-            station: 7,
-            apid: 42,
-            units: 2,
-            packets: 3,
-            missing: 1,
-            broken: 0,
-        },
-        19,
-    );
-    writing_case(
-        Record {
-            station: 7,
-            apid: 42,
-            units: 3000,
-            packets: 212,
-            missing: 0,
-            broken: 0,
-        },
-        19,
-    );
-    writing_case(
-        Record {
-            station: 65535,
-            apid: 2046,
-            units: 0,
-            packets: 0,
-            missing: 0,
-            broken: 0,
-        },
-        20,
-    );
-    writing_case(
-        Record {
-            station: 7,
-            apid: 2047,
-            units: 0,
-            packets: 0,
-            missing: 0,
-            broken: 0,
-        },
-        20,
-    );
-    writing_case(
-        Record {
-            station: 7,
-            apid: 42,
-            units: 0,
-            packets: 0,
-            missing: 1,
-            broken: 0,
-        },
-        20,
-    );
-    writing_case(
-        Record {
-            station: 7,
-            apid: 42,
-            units: 0,
-            packets: 1,
-            missing: 1,
-            broken: 0,
-        },
-        20,
-    );
-    writing_case(
-        Record {
-            station: 7,
-            apid: 42,
-            units: 1,
-            packets: 2,
-            missing: 16382,
-            broken: 1,
-        },
-        20,
-    );
-    writing_case(
-        Record {
-            station: 7,
-            apid: 42,
-            units: 1,
-            packets: 2,
-            missing: 16383,
-            broken: 1,
-        },
-        20,
-    );
-    writing_case(
-        Record {
-            station: 7,
-            apid: 42,
-            units: 262144,
-            packets: 262144,
-            missing: 4294426626,
-            broken: 0,
-        },
-        20,
-    );
-    writing_case(
-        Record {
-            station: 7,
-            apid: 42,
-            units: 0,
-            packets: 262144,
-            missing: 4294426627,
-            broken: 0,
-        },
-        20,
-    );
-    writing_case(
-        Record {
-            station: 7,
-            apid: 42,
-            units: 0,
-            packets: 262145,
-            missing: 0,
-            broken: 0,
-        },
-        20,
-    );
-    writing_case(
-        Record {
-            station: 7,
-            apid: 42,
-            units: 1,
-            packets: 3,
-            missing: 0,
-            broken: 2,
-        },
-        20,
-    );
-    writing_case(
-        Record {
-            station: 7,
-            apid: 42,
-            units: 2,
-            packets: 3,
-            missing: 0,
-            broken: 2,
-        },
-        20,
-    );
-    writing_case(
-        Record {
-            station: 7,
-            apid: 42,
-            units: 4294967295,
-            packets: 0,
-            missing: 0,
-            broken: 1,
-        },
-        20,
-    );
+    writing_case(7, 42, 2, 3, 1, 0, 24);
+    writing_case(7, 42, 3000, 212, 0, 0, 24);
+    writing_case(7, 42, 2, 3, 1, 0, 19);
+    writing_case(7, 42, 3000, 212, 0, 0, 19);
+    writing_case(65535, 2046, 0, 0, 0, 0, 20);
+    writing_case(7, 2047, 0, 0, 0, 0, 20);
+    writing_case(7, 42, 0, 0, 1, 0, 20);
+    writing_case(7, 42, 0, 1, 1, 0, 20);
+    writing_case(7, 42, 1, 2, 16382, 1, 20);
+    writing_case(7, 42, 1, 2, 16383, 1, 20);
+    writing_case(7, 42, 262144, 262144, 4294426626, 0, 20);
+    writing_case(7, 42, 0, 262144, 4294426627, 0, 20);
+    writing_case(7, 42, 0, 262145, 0, 0, 20);
+    writing_case(7, 42, 1, 3, 0, 2, 20);
+    writing_case(7, 42, 2, 3, 0, 2, 20);
+    writing_case(7, 42, 4294967295, 0, 0, 1, 20);
 }
 
 // The possible record, an impossible one, and wrong lengths.

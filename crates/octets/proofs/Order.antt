@@ -6,7 +6,8 @@ use mathlib.Core.Bool.{Bool, true, false, _&&_, _||_, true≢false}
 use native.Mathlib.Omega.{arith}
 use borrow.Author.Tests.{eq-eqb, ne-eqb, eqb-true, eqb-false}
 use lib.Dec.{eqb}
-use Rattle.octets.specs.Order.{answer, unlessRefused, Test, _gives_, first, Because, none, holds, fails}
+use Rattle.octets.specs.Output.{answer, unlessRefused}
+use Rattle.octets.specs.Order.{Test, _gives_, first, Because, none, holds, fails}
 
 pub either : {A : Type 0} (b : Bool) → (b ≡ true → A) → (b ≡ false → A) → A
 either true f g = f refl

@@ -1,23 +1,29 @@
--- A lent output with some octets put into it, whose other octets all stay; and what a writer gives.
+-- What a call tells, and what it leaves of something that was lent to it. A refusal is the paper's number, and 0 stands for none.
 use Prim.Native.Nat.{ℕ, _+_}
 use mathlib.Core.List.{List, [], _∷_, _++_}
 use mathlib.Core.Bool.{cond}
 use lib.ListN.{length, take, drop}
-use lib.Dec.{leb}
-use Rattle.octets.specs.Order.{answer, unlessRefused}
+use lib.Dec.{eqb, leb}
 
--- d with text in it from index at on
+-- what a call tells: 0 and its values, or the refusal
+abbrev pub answer : ℕ → List ℕ → List ℕ
+answer refusal values = cond (eqb refusal 0) (0 ∷ values) (refusal ∷ [])
+
+-- what it leaves of something lent: the new value; or, where it refuses, the old one
+abbrev pub unlessRefused : {A : Type 0} → ℕ → A → A → A
+unlessRefused refusal new old = cond (eqb refusal 0) new old
+
+-- an output d with text in it from index at on, where the text fits; every other octet stays
 unfoldable pub put : List ℕ → ℕ → List ℕ → List ℕ
 put d at text = take at d ++ text ++ drop (at + length text) d
 
--- the same where the text fits, and d where it doesn't
+-- the same, and d where the text doesn't fit
 unfoldable pub putIfFits : List ℕ → ℕ → List ℕ → List ℕ
 putIfFits d at text = cond (leb (at + length text) (length d)) (put d at text) d
 
--- the output after a writer: the text at its front; or, where the writer refuses, as it was
-unfoldable pub written : ℕ → List ℕ → List ℕ → List ℕ
-written refusal text out = unlessRefused refusal (put out 0 text) out
+-- a writer of some text tells its octets, and leaves it at the front of the output
+unfoldable pub writerTells : ℕ → List ℕ → List ℕ
+writerTells refusal text = answer refusal (length text ∷ [])
 
--- what the writer tells: 0 and the octets written, or the refusal
-unfoldable pub writing : ℕ → List ℕ → List ℕ
-writing refusal text = answer refusal (length text ∷ [])
+unfoldable pub outputAfter : ℕ → List ℕ → List ℕ → List ℕ
+outputAfter refusal text out = unlessRefused refusal (put out 0 text) out

@@ -36,11 +36,11 @@ pub fn be32_at(s: &[u8], k: usize) -> u32
     }
 }
 
-// Whether n octets from index at on lie within a length.
-fn has_room(length: usize, at: usize, n: usize) -> bool
-    ensures { λ r. ⌜ r ≡ leb (at + n) length ⌝ }
+// Whether n octets from index at on lie within so many; at + n could overflow, and is not made.
+fn has_room(octets: usize, at: usize, n: usize) -> bool
+    ensures { λ r. ⌜ r ≡ leb (at + n) octets ⌝ }
 {
-    if n <= length { at <= length - n } else { false }
+    if n <= octets { at <= octets - n } else { false }
 }
 
 // Puts text into out from index at on, if it fits.

@@ -4,7 +4,8 @@ use mathlib.Core.List.{List, [], _∷_, _++_}
 use mathlib.Core.Bool.{Bool, cond, not, _||_}
 use lib.ListN.{length, take, drop}
 use lib.Dec.{ltb, eqb}
-use Rattle.octets.specs.Order.{Test, _gives_, first, answer}
+use Rattle.octets.specs.Order.{Test, _gives_, first}
+use Rattle.octets.specs.Output.{answer}
 use Rattle.packet.specs.Space.{version, packetType, secondary, apid, flags, count, spaceHeader, dataOctets, spaceSize, flaggedIdle}
 use Rattle.packet.specs.Encapsulation.{protocol, encapHeader, user, extension, encapSize, misnamed, emptyNamed}
 

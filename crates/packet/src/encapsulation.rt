@@ -9,13 +9,11 @@ ghost use Rattle.packet.specs.Space.{version};
 ghost use Rattle.packet.specs.Encapsulation.{headerFor, sizeFor, misnames};
 ghost use Rattle.packet.specs.Reading.{reading};
 ghost use Rattle.packet.specs.Told.{told};
+use crate::LIMIT;
 use crate::Packet;
 use octets::be16_at;
 use octets::be32_at;
 use octets::octet_at;
-
-// Our limit of octets a packet, which is the longest Space Packet's size too.
-const LIMIT: usize = 65542;
 
 // The octets of the header, from the length of length.
 fn header_for(l: u8) -> u8

@@ -9,6 +9,12 @@ ghost use Rattle.packet.specs.Reading.{reading, content, contentAt};
 ghost use Rattle.packet.specs.Told.{told, numberOf, sizeOf, headerOf};
 use octets::octet_at;
 
+// The octets of a Space Packet's header.
+pub const SPACE_HEADER: usize = 6;
+
+// Our limit of octets a packet, which is the longest Space Packet's size too.
+pub const LIMIT: usize = 65542;
+
 // What reading tells. Fields that a header does not have are 0.
 pub enum Packet {
     // type 0 is telemetry, 1 telecommand; flags 0 continuation, 1 first, 2 last, 3 unsegmented; octets are those of the data field
@@ -65,7 +71,7 @@ pub fn header_of(p: Packet) -> usize
     ensures { λ r. ⌜ r ≡ headerOf p ⌝ }
 {
     match p {
-        Packet::Space { .. } => space::HEADER,
+        Packet::Space { .. } => SPACE_HEADER,
         Packet::Encapsulation { header, .. } => header as usize,
         Packet::Refused(_) => 0,
     }
@@ -76,7 +82,7 @@ pub fn size_of(p: Packet) -> usize
     ensures { λ r. ⌜ r ≡ sizeOf p ⌝ }
 {
     match p {
-        Packet::Space { octets, .. } => space::HEADER + octets as usize,
+        Packet::Space { octets, .. } => SPACE_HEADER + octets as usize,
         Packet::Encapsulation { header, octets, .. } => header as usize + octets as usize,
         Packet::Refused(_) => 0,
     }

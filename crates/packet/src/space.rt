@@ -6,10 +6,9 @@ ghost use Rattle.packet.specs.Space.{version};
 ghost use Rattle.packet.specs.Reading.{reading};
 ghost use Rattle.packet.specs.Told.{told};
 use crate::Packet;
+use crate::SPACE_HEADER;
 use octets::be16_at;
 use octets::octet_at;
-
-pub(crate) const HEADER: usize = 6;
 
 // The APID of idle packets, which never have a secondary header.
 const IDLE: u16 = 2047;
@@ -19,7 +18,7 @@ pub(crate) fn read(s: &[u8]) -> Packet
     requires { ⌜ (0 < length (now s)) × (version (now s) ≡ 0) ⌝ }
     ensures { λ r. ⌜ told r ≡ reading (now (s .entry)) ⌝ }
 {
-    if s.len() < HEADER {
+    if s.len() < SPACE_HEADER {
         return Packet::Refused(1);
     }
     let first = octet_at(s, 0);
@@ -29,7 +28,7 @@ pub(crate) fn read(s: &[u8]) -> Packet
         return Packet::Refused(3);
     }
     let octets = be16_at(s, 4) as u32 + 1;
-    if s.len() < HEADER + octets as usize {
+    if s.len() < SPACE_HEADER + octets as usize {
         return Packet::Refused(1);
     }
     Packet::Space {

@@ -1,14 +1,14 @@
 -- What each enum tells fixes the answer, so each promise permits one; and what each case says of the octets.
-use Prim.Native.Nat.{ℕ, _<_}
-use mathlib.Core.Path.{_≡_, refl, sym, _∙_}
+use Prim.Native.Nat.{ℕ, _%_, _<_}
+use mathlib.Core.Path.{_≡_, refl, sym, ap, _∙_}
 use mathlib.Core.Logic.{_⊎_, inl, inr, ⊎-elim}
 use mathlib.Core.List.{List, [], _∷_}
+use mathlib.Core.Bool.{not}
 use native.Mathlib.Omega.{arith}
-use borrow.Author.Tests.{eqb-true}
-use lib.Dec.{eqb}
-use Rattle.octets.specs.Order.{answer}
+use lib.Dec.{eqb, ltb}
+use lib.ListN.{length, getD}
 use Rattle.octets.proofs.Order.{either, tells-values, tells-refusal}
-use Rattle.record.specs.Record.{station, fieldsIn}
+use Rattle.record.specs.Record.{recordSize, stationIn, fieldsIn}
 use Rattle.record.specs.Reading.{recordRefusal, recordReading, recordsIn, impossibleIn, fileRefusal, fileReading}
 use Rattle.record.specs.Told.{fields, toldRead, toldWritten, toldFile}
 use Rattle.record.specs.declared.Record.{Record}
@@ -70,27 +70,26 @@ module _ (s : List ℕ) where
 
   pub read-refused : (number : ℕ) → number ∷ [] ≡ recordReading s → (recordRefusal s ≡ number) × (0 < recordRefusal s)
   unfolding recordReading
-  read-refused number e = tells-refusal (recordRefusal s) (fieldsIn s) (station s) number _ refl e
+  read-refused number e = tells-refusal (recordRefusal s) (fieldsIn s) (stationIn s) number _ refl e
 
+  -- a file: what is told begins with the number, and which test gave it settles the rest
   file-told : {told : List ℕ} → told ≡ fileReading s
-      → ((fileRefusal s ≡ 25) × (told ≡ 25 ∷ impossibleIn s ∷ [])) ⊎ (told ≡ answer (fileRefusal s) (recordsIn s ∷ []))
+      → (told ≡ 26 ∷ []) ⊎ ((told ≡ 25 ∷ impossibleIn s ∷ []) ⊎ (told ≡ 0 ∷ recordsIn s ∷ []))
   unfolding fileReading
-  file-told e = either (eqb (fileRefusal s) 25) (λ t. inl (eqb-true _ _ t, simp t at e)) (λ f. inr (simp f at e))
+  file-told e =
+      either (not (eqb (length s % recordSize) 0)) (λ t. inl (simp t at e))
+      (λ f. either (ltb (impossibleIn s) (recordsIn s)) (λ t. inr (inl (simp (f, t) at e))) (λ g. inr (inr (simp (f, g) at e))))
+
+  number-told : {told : List ℕ} → told ≡ fileReading s → fileRefusal s ≡ getD told 0 0
+  number-told e = ap (λ t. getD t 0 0) (sym e)
 
   pub file-records : (n : ℕ) → 0 ∷ n ∷ [] ≡ fileReading s → (fileRefusal s ≡ 0) × (n ≡ recordsIn s)
   file-records n e =
-      ⊎-elim (λ (r, f). let z : _≡_ {A = ℕ} 0 25 = cc in absurd (omega arith))
-      (λ f. let t = tells-values (fileRefusal s) (recordsIn s ∷ []) (n ∷ []) f in let same = t .1 in (t .0, cc)) (file-told e)
+      (number-told e, ⊎-elim (λ f. let z : _≡_ {A = ℕ} 0 26 = cc in absurd (omega arith)) (⊎-elim (λ f. let z : _≡_ {A = ℕ} 0 25 = cc in absurd (omega arith)) (λ f. cc)) (file-told e))
 
   pub file-impossible : (i : ℕ) → 25 ∷ i ∷ [] ≡ fileReading s → (fileRefusal s ≡ 25) × (i ≡ impossibleIn s)
-  file-impossible i e = ⊎-elim (λ (r, f). (r, cc)) (λ f. absurd (two-values f)) (file-told e)
-    where
-      two-values : 25 ∷ i ∷ [] ≡ answer (fileRefusal s) (recordsIn s ∷ []) → ⊥
-      two-values f =
-          either (eqb (fileRefusal s) 0) (λ t. let y = simp t at f in let z : _≡_ {A = ℕ} 25 0 = cc in omega arith)
-          (λ g. let y = simp g at f in let z : _≡_ {A = ℕ} 0 1 = cc in omega arith)
+  file-impossible i e =
+      (number-told e, ⊎-elim (λ f. let z : _≡_ {A = ℕ} 25 26 = cc in absurd (omega arith)) (⊎-elim (λ f. cc) (λ f. let z : _≡_ {A = ℕ} 25 0 = cc in absurd (omega arith))) (file-told e))
 
   pub file-ragged : 26 ∷ [] ≡ fileReading s → fileRefusal s ≡ 26
-  file-ragged e =
-      ⊎-elim (λ (r, f). let z : _≡_ {A = ℕ} 26 25 = cc in absurd (omega arith))
-      (λ f. tells-refusal (fileRefusal s) (recordsIn s ∷ []) (recordsIn s) 26 [] refl f .0) (file-told e)
+  file-ragged e = number-told e

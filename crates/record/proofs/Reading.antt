@@ -6,7 +6,7 @@ use mathlib.Core.Bool.{true, false}
 use borrow.Author.Tests.{eq-eqb, ne-eqb, lt-ltb, le-ltb}
 use lib.ListN.{length}
 use Rattle.record.specs.Record.{recordSize, fieldsIn, possible}
-use Rattle.record.specs.Reading.{possibleAt, recordRefusal, recordReading, recordsIn, impossibleIn, fileRefusal, fileReading}
+use Rattle.record.specs.Reading.{possibleAt, recordRefusal, recordReading, recordsIn, impossibleIn, fileReading}
 use Rattle.record.specs.Writing.{writingRefusal}
 use Rattle.record.specs.Told.{fields, isPossible}
 use Rattle.record.specs.declared.Record.{Record}
@@ -32,31 +32,31 @@ module _ (s : List ℕ) where
     is-read p = simp (eq-eqb (length s) recordSize h, p)
 
 -- ---- writing one
-module _ (room apid units packets missing broken : ℕ) where
-  pub no-room : room < recordSize → writingRefusal room apid units packets missing broken ≡ 9
+module _ (apid units packets missing broken room : ℕ) where
+  pub no-room : room < recordSize → writingRefusal apid units packets missing broken room ≡ 9
   unfolding writingRefusal
   no-room h = simp (lt-ltb room recordSize h)
 
   module _ (h : recordSize ≤ room) where
-    pub write-impossible : possible apid units packets missing broken ≡ false → writingRefusal room apid units packets missing broken ≡ 25
+    pub write-impossible : possible apid units packets missing broken ≡ false → writingRefusal apid units packets missing broken room ≡ 25
     unfolding writingRefusal
     write-impossible p = simp (le-ltb room recordSize h, p)
 
-    pub is-written : possible apid units packets missing broken ≡ true → writingRefusal room apid units packets missing broken ≡ 0
+    pub is-written : possible apid units packets missing broken ≡ true → writingRefusal apid units packets missing broken room ≡ 0
     unfolding writingRefusal
     is-written p = simp (le-ltb room recordSize h, p)
 
 -- ---- reading a file
 module _ (s : List ℕ) where
   pub ragged : (length s % recordSize ≡ 0 → ⊥) → 26 ∷ [] ≡ fileReading s
-  unfolding fileReading fileRefusal
+  unfolding fileReading
   ragged h = simp (ne-eqb (length s % recordSize) 0 h)
 
   module _ (h : length s % recordSize ≡ 0) where
     pub one-impossible : impossibleIn s < recordsIn s → 25 ∷ impossibleIn s ∷ [] ≡ fileReading s
-    unfolding fileReading fileRefusal
+    unfolding fileReading
     one-impossible l = simp (eq-eqb (length s % recordSize) 0 h, lt-ltb (impossibleIn s) (recordsIn s) l)
 
     pub all-possible : recordsIn s ≤ impossibleIn s → 0 ∷ recordsIn s ∷ [] ≡ fileReading s
-    unfolding fileReading fileRefusal
+    unfolding fileReading
     all-possible l = simp (eq-eqb (length s % recordSize) 0 h, le-ltb (impossibleIn s) (recordsIn s) l)

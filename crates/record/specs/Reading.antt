@@ -1,23 +1,26 @@
--- Reading one record, and a file of records. A refusal is the paper's number, and 0 stands for none.
+-- Reading one record, and a file of records.
 use Prim.Native.Nat.{ℕ, zero, suc, _/_, _%_}
 use mathlib.Core.List.{List, [], _∷_}
 use mathlib.Core.Bool.{Bool, cond, not}
-use lib.ListN.{length, drop}
+use lib.ListN.{length, drop, getD}
 use lib.Dec.{eqb, ltb}
-use Rattle.octets.specs.Order.{_gives_, first, answer}
-use Rattle.record.specs.Record.{recordSize, apid, units, packets, missing, broken, fieldsIn, possible}
+use Rattle.octets.specs.Order.{Test, _gives_, first}
+use Rattle.octets.specs.Output.{answer}
+use Rattle.record.specs.Record.{recordSize, apidIn, unitsIn, packetsIn, missingIn, brokenIn, fieldsIn, possible}
 
 -- whether the record at the front of some octets is possible
 unfoldable pub possibleAt : List ℕ → Bool
-possibleAt s = possible (apid s) (units s) (packets s) (missing s) (broken s)
+possibleAt s = possible (apidIn s) (unitsIn s) (packetsIn s) (missingIn s) (brokenIn s)
 
 -- 26 for a single record that is not 20 octets, then 25
-unfoldable pub recordRefusal : List ℕ → ℕ
-recordRefusal s =
-    first 0
-    ((not (eqb (length s) recordSize) gives 26)
+abbrev pub recordTests : List ℕ → List (Test ℕ)
+recordTests s =
+    (not (eqb (length s) recordSize) gives 26)
     ∷ (not (possibleAt s) gives 25)
-    ∷ [])
+    ∷ []
+
+unfoldable pub recordRefusal : List ℕ → ℕ
+recordRefusal s = first 0 (recordTests s)
 
 -- what reading one record tells: 0 and the fields, or the refusal
 unfoldable pub recordReading : List ℕ → List ℕ
@@ -28,21 +31,24 @@ unfoldable pub possibleBefore : ℕ → List ℕ → ℕ
 possibleBefore zero s = 0
 possibleBefore (suc n) s = cond (possibleAt s) (suc (possibleBefore n (drop recordSize s))) 0
 
--- the number of records in a file, and the index of the first impossible one
+-- the number of records in a file; and the index of the first impossible one, or that number where there is none
 abbrev pub recordsIn : List ℕ → ℕ
 recordsIn s = length s / recordSize
 
 abbrev pub impossibleIn : List ℕ → ℕ
 impossibleIn s = possibleBefore (recordsIn s) s
 
--- 26 for a file that is not a multiple of 20 octets, then 25
-unfoldable pub fileRefusal : List ℕ → ℕ
-fileRefusal s =
-    first 0
-    ((not (eqb (length s % recordSize) 0) gives 26)
-    ∷ (ltb (impossibleIn s) (recordsIn s) gives 25)
-    ∷ [])
+-- 26 for a file that is not a multiple of 20 octets, then 25 for the first impossible record, and its index
+abbrev pub fileTests : List ℕ → List (Test (List ℕ))
+fileTests s =
+    (not (eqb (length s % recordSize) 0) gives (26 ∷ []))
+    ∷ (ltb (impossibleIn s) (recordsIn s) gives (25 ∷ impossibleIn s ∷ []))
+    ∷ []
 
--- what reading a file tells: 0 and the number of records, 25 and the index of the first impossible one, or 26
+-- what reading a file tells: 0 and the number of records; or the refusal, 25 with the index
 unfoldable pub fileReading : List ℕ → List ℕ
-fileReading s = cond (eqb (fileRefusal s) 25) (25 ∷ impossibleIn s ∷ []) (answer (fileRefusal s) (recordsIn s ∷ []))
+fileReading s = first (0 ∷ recordsIn s ∷ []) (fileTests s)
+
+-- the refusal alone: what is told begins with it
+abbrev pub fileRefusal : List ℕ → ℕ
+fileRefusal s = getD (fileReading s) 0 0

@@ -8,27 +8,27 @@ use Rattle.octets.specs.Octets.{be16, be32, octets2, octets4}
 abbrev pub recordSize : ℕ
 recordSize = 20
 
--- the fields, read from the octets
-abbrev pub station : List ℕ → ℕ
-station s = be16 s 0
+-- the fields in the octets
+abbrev pub stationIn : List ℕ → ℕ
+stationIn s = be16 s 0
 
-abbrev pub apid : List ℕ → ℕ
-apid s = be16 s 2
+abbrev pub apidIn : List ℕ → ℕ
+apidIn s = be16 s 2
 
-abbrev pub units : List ℕ → ℕ
-units s = be32 s 4
+abbrev pub unitsIn : List ℕ → ℕ
+unitsIn s = be32 s 4
 
-abbrev pub packets : List ℕ → ℕ
-packets s = be32 s 8
+abbrev pub packetsIn : List ℕ → ℕ
+packetsIn s = be32 s 8
 
-abbrev pub missing : List ℕ → ℕ
-missing s = be32 s 12
+abbrev pub missingIn : List ℕ → ℕ
+missingIn s = be32 s 12
 
-abbrev pub broken : List ℕ → ℕ
-broken s = be32 s 16
+abbrev pub brokenIn : List ℕ → ℕ
+brokenIn s = be32 s 16
 
 abbrev pub fieldsIn : List ℕ → List ℕ
-fieldsIn s = station s ∷ apid s ∷ units s ∷ packets s ∷ missing s ∷ broken s ∷ []
+fieldsIn s = stationIn s ∷ apidIn s ∷ unitsIn s ∷ packetsIn s ∷ missingIn s ∷ brokenIn s ∷ []
 
 -- the octets, made from the fields
 unfoldable pub recordOctets : ℕ → ℕ → ℕ → ℕ → ℕ → ℕ → List ℕ

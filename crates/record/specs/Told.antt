@@ -3,7 +3,7 @@ use Prim.Native.Nat.{ℕ}
 use mathlib.Core.List.{List, [], _∷_}
 use mathlib.Core.Bool.{Bool}
 use Rattle.record.specs.Record.{possible, recordOctets}
-use Rattle.record.specs.Writing.{writingRefusal}
+use Rattle.record.specs.Writing.{recordTold, recordAfter}
 use Rattle.record.specs.declared.Record.{Record}
 use Rattle.record.specs.declared.RecordRead.{RecordRead}
 use Rattle.record.specs.declared.RecordRead.the-variants as read
@@ -36,8 +36,11 @@ toldFile file.Ragged = 26 ∷ []
 abbrev pub isPossible : Record → Bool
 isPossible r = possible (r .apid) (r .units) (r .packets) (r .missing) (r .broken)
 
-abbrev pub refusalOf : Record → ℕ → ℕ
-refusalOf r room = writingRefusal room (r .apid) (r .units) (r .packets) (r .missing) (r .broken)
-
 abbrev pub octetsOf : Record → List ℕ
 octetsOf r = recordOctets (r .station) (r .apid) (r .units) (r .packets) (r .missing) (r .broken)
+
+abbrev pub writtenOf : Record → List ℕ → List ℕ
+writtenOf r out = recordTold (r .station) (r .apid) (r .units) (r .packets) (r .missing) (r .broken) out
+
+abbrev pub afterOf : Record → List ℕ → List ℕ
+afterOf r out = recordAfter (r .station) (r .apid) (r .units) (r .packets) (r .missing) (r .broken) out

@@ -4,10 +4,9 @@ mod fields;
 ghost use mathlib.Core.Path.{_≡_};
 ghost use Prim.Native.Nat.{_*_, _≤_};
 ghost use lib.ListN.{length};
-ghost use Rattle.octets.specs.Output.{written, writing};
 ghost use Rattle.record.specs.Record.{recordSize};
 ghost use Rattle.record.specs.Reading.{recordReading, possibleBefore, fileReading};
-ghost use Rattle.record.specs.Told.{toldRead, toldWritten, toldFile, isPossible, refusalOf, octetsOf};
+ghost use Rattle.record.specs.Told.{toldRead, toldWritten, toldFile, isPossible, writtenOf, afterOf};
 use fields::SIZE;
 use fields::most_missing;
 use fields::put_fields;
@@ -70,8 +69,8 @@ pub fn read_record(s: &[u8]) -> RecordRead
 
 // Writes r at the front of out, if there is room and it is possible.
 pub fn write_record(r: Record, out: &mut [u8]) -> RecordWritten
-    ensures { λ w. ⌜ toldWritten w ≡ writing (refusalOf r (length (now (out .entry)))) (octetsOf r) ⌝ }
-    ensures { λ _. ⌜ now (out .exit) ≡ written (refusalOf r (length (now (out .entry)))) (octetsOf r) (now (out .entry)) ⌝ }
+    ensures { λ w. ⌜ toldWritten w ≡ writtenOf r (now (out .entry)) ⌝ }
+    ensures { λ _. ⌜ now (out .exit) ≡ afterOf r (now (out .entry)) ⌝ }
 {
     if out.len() < SIZE {
         return RecordWritten::Refused(9);

@@ -110,7 +110,7 @@ module _ (s : List ℕ) (small : AreOctets s) (good : EncapGood s) (h : encapSiz
   kind-7 : eqb (version s) 0 ≡ false
   kind-7 = ne-eqb (version s) 0 (λ z. omega (arith, z, good .0 .0 .0 .0 .0 .1))
 
-  is-given : content s ≡ given
+  pub is-given : content s ≡ given
   unfolding content header size
   is-given = simp (eq-eqb (refusal s) 0 (whole-gives (encapsulation good h)), kind-7)
 

@@ -6,4 +6,5 @@ pub mod EncapRead
 pub mod EncapWrite
 pub mod Shortest
 pub mod RoundTrips
+pub mod Exactly
 pub mod Answers

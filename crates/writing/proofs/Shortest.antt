@@ -5,19 +5,19 @@ use mathlib.Core.Path.{_≡_, refl, sym, ap, _∙_}
 use mathlib.Core.List.{List, [], _∷_, _++_, append-nil}
 use mathlib.Core.Bool.{true, false, cond, not, _&&_, _||_, true≢false}
 use native.Mathlib.Omega.{arith}
-use borrow.Author.Tests.{eq-eqb, ne-eqb, lt-ltb, eqb-true, eqb-false, not-false}
+use borrow.Author.Tests.{eq-eqb, ne-eqb, lt-ltb, le-ltb, ltb-true, ltb-false, eqb-true, eqb-false, not-false}
 use lib.Dec.{eqb, ltb}
 use lib.ListN.{length}
 use Rattle.octets.specs.Octets.{octet, be16, AreOctets}
 use Rattle.octets.proofs.Order.{either, neither}
 use Rattle.packet.specs.Encapsulation.{protocol, encapHeader, user, extension, ccsds, sizeFor, encapSize, extendsAnother}
-use Rattle.packet.specs.Reading.{reading, content, contentAt}
+use Rattle.packet.specs.Reading.{limit, reading, content, contentAt}
 use Rattle.packet.specs.Causes.{Whole, space, encapsulation, EncapGood}
 use Rattle.packet.specs.declared.Packet.the-variants.{Encapsulation}
 use Rattle.packet.proofs.Exactly.{exactly-whole}
 use Rattle.packet.proofs.Answers.{Says, says}
 use Rattle.writing.specs.Encapsulation.{shortest, headerOctets, encapOctetsWith, encapOctets, encapRefusal}
-use Rattle.writing.specs.Carries.{Carries}
+use Rattle.writing.specs.Carries.{Carries, IsShortest}
 use Rattle.writing.proofs.Header as fit
 use Rattle.writing.proofs.Header.{Fit, shortest-fits, some}
 use Rattle.writing.proofs.EncapFine.{Fine, fine, accepts}
@@ -136,8 +136,26 @@ module _ (p u x room : ℕ) (given : List ℕ) (e : encapRefusal p u x (length g
         packet = encapOctets p u x given;
         are-octets = in-front (headerOctets (shortest p u n) p u x (shortest p u n + n)) given (small-header x (shortest-fits p u n) (legal p u x n room (fine p u x n room e))) small;
         reads = ap reading (sym (append-nil (encapOctets p u x given))) ∙ back .0;
-        holds = ap content (sym (append-nil (encapOctets p u x given))) ∙ back .1;
+        has-content = ap content (sym (append-nil (encapOctets p u x given))) ∙ back .1;
       }
+
+  -- so it is the shortest
+  pub is-shortest : AreOctets given → IsShortest (shortest p u (length given)) p u x given
+  is-shortest small = (carried small, λ k c. no-shorter k p u x given c)
+
+-- ---- 10 is given exactly for more than 65,534 octets of content
+pub too-long : (p u n : ℕ) → ltb limit (shortest p u n + n) ≡ ltb 65534 n
+too-long p u n =
+    let f = shortest-fits p u n in
+    either (ltb 65534 n)
+    (λ t. lt-ltb limit (shortest p u n + n) (over f (ltb-true _ _ t)) ∙ sym t)
+    (λ g. le-ltb limit (shortest p u n + n) (omega (arith, some f, ltb-false 65534 n g)) ∙ sym g)
+  where
+    over : {h : ℕ} → Fit h p u n → 65534 < n → limit < h + n
+    over (fit.one e a b c) l = absurd (omega (arith, a, l))
+    over (fit.two e a b c) l = absurd (omega (arith, c, l))
+    over (fit.four e a) l = absurd (omega (arith, a, l))
+    over (fit.eight e) l = omega (arith, e, l)
 
 -- ---- writing what was read is never refused where there is room for the shortest header and the content
 module _ (s : List ℕ) (small : AreOctets s) (good : EncapGood s) (room : ℕ) where

@@ -10,7 +10,7 @@ use lib.ListN.{length}
 use Rattle.octets.proofs.Order.{either, neither}
 use Rattle.packet.specs.Space.{spaceHeader, flagsIdle}
 use Rattle.writing.specs.Fields.{over}
-use Rattle.writing.specs.Space.{spaceOctets, spaceOver, noData, spaceRefusal}
+use Rattle.writing.specs.Space.{spaceOctets, spaceOver, wrongDataLength, spaceRefusal}
 
 module _ (t x a f c n room : ℕ) where
   pub record Fine : Type 0 where
@@ -25,7 +25,7 @@ module _ (t x a f c n room : ℕ) where
     pub fits : spaceHeader + n ≤ room
 
   -- the tests that failed, as facts
-  pub all-failed : spaceOver t x a f c ≡ false → flagsIdle a x ≡ false → noData n ≡ false → spaceHeader + n ≤ room → Fine
+  pub all-failed : spaceOver t x a f c ≡ false → flagsIdle a x ≡ false → wrongDataLength n ≡ false → spaceHeader + n ≤ room → Fine
   all-failed over′ idle empty fits =
       let (o4, c′) = neither (over 1 t || over 1 x || over 11 a || over 2 f) (over 14 c) over′ in
       let (o3, f′) = neither (over 1 t || over 1 x || over 11 a) (over 2 f) o4 in
@@ -49,7 +49,7 @@ module _ (t x a f c n room : ℕ) where
   fine e =
       either (spaceOver t x a f c) (λ h. absurd (omega (arith, simp h at e)))
       (λ o. either (flagsIdle a x) (λ h. absurd (omega (arith, simp (o, h) at e)))
-      (λ i. either (noData n) (λ h. absurd (omega (arith, simp (o, i, h) at e)))
+      (λ i. either (wrongDataLength n) (λ h. absurd (omega (arith, simp (o, i, h) at e)))
       (λ d. either (ltb room (spaceHeader + n)) (λ h. absurd (omega (arith, simp (o, i, d, h) at e)))
       (λ h. all-failed o i d (ltb-false room (spaceHeader + n) h)))))
 

@@ -6,13 +6,14 @@ use lib.ListN.{length}
 use lib.Dec.{eqb, ltb}
 use Rattle.octets.specs.Octets.{octets2, octets4}
 use Rattle.octets.specs.Order.{Test, _gives_, first}
-use Rattle.octets.specs.Output.{writing, written}
+use Rattle.octets.specs.Output.{writerTells, outputAfter}
 use Rattle.packet.specs.Encapsulation.{extendsAnother}
 use Rattle.packet.specs.Reading.{limit}
 use Rattle.writing.specs.Fields.{over}
 
 -- the shortest header that can carry the fields and n octets of content: 1 octet only for no content, user 0 and protocol 0; at least 4
--- where the user field is not 0 or the protocol ID is 6; and the length, which counts the whole packet, stands in 1, 2 or 4 octets
+-- where the user field is not 0 or the protocol ID is 6 (an extension needs that ID); and the length, which counts the whole packet, must
+-- fit in the 1, 2 or 4 octets that the header has for it
 unfoldable pub shortest : ℕ → ℕ → ℕ → ℕ
 shortest p u n =
     first 8
@@ -25,7 +26,8 @@ shortest p u n =
 abbrev pub firstOctet : ℕ → ℕ → ℕ
 firstOctet p l = 7 * 32 + p * 4 + l
 
--- a header of h octets for a packet of so many: 1, 2, 4 or 8 octets for a length of length of 0, 1, 2, 3
+-- a header of h octets for a packet of size octets: 1, 2, 4 or 8 for a length of length of 0, 1, 2, 3. Octet 1 is the user field and the
+-- extension, octets 2 and 3 the CCSDS field; the last 1, 2 or 4 octets are the packet length
 unfoldable pub headerOctets : ℕ → ℕ → ℕ → ℕ → ℕ → List ℕ
 headerOctets h p u x size =
     cond (eqb h 1) (firstOctet p 0 ∷ [])
@@ -58,7 +60,7 @@ encapRefusal p u x n room = first 0 (encapTests p u x n room)
 
 -- what the writer tells, and the output after it
 abbrev pub encapTold : ℕ → ℕ → ℕ → List ℕ → List ℕ → List ℕ
-encapTold p u x content out = writing (encapRefusal p u x (length content) (length out)) (encapOctets p u x content)
+encapTold p u x content out = writerTells (encapRefusal p u x (length content) (length out)) (encapOctets p u x content)
 
 abbrev pub encapAfter : ℕ → ℕ → ℕ → List ℕ → List ℕ → List ℕ
-encapAfter p u x content out = written (encapRefusal p u x (length content) (length out)) (encapOctets p u x content) out
+encapAfter p u x content out = outputAfter (encapRefusal p u x (length content) (length out)) (encapOctets p u x content) out

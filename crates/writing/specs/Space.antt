@@ -6,7 +6,7 @@ use lib.ListN.{length}
 use lib.Dec.{eqb, ltb}
 use Rattle.octets.specs.Octets.{octets2}
 use Rattle.octets.specs.Order.{Test, _gives_, first}
-use Rattle.octets.specs.Output.{writing, written}
+use Rattle.octets.specs.Output.{writerTells, outputAfter}
 use Rattle.packet.specs.Space.{spaceHeader, flagsIdle}
 use Rattle.writing.specs.Fields.{over}
 
@@ -19,15 +19,15 @@ abbrev pub spaceOver : ℕ → ℕ → ℕ → ℕ → ℕ → Bool
 spaceOver t x a f c = over 1 t || over 1 x || over 11 a || over 2 f || over 14 c
 
 -- data to write: none, or over 65,536
-abbrev pub noData : ℕ → Bool
-noData n = eqb n 0 || ltb 65536 n
+abbrev pub wrongDataLength : ℕ → Bool
+wrongDataLength n = eqb n 0 || ltb 65536 n
 
 -- 8, then 3, then 10, 9: for n octets of data and an output of room octets
 abbrev pub spaceTests : ℕ → ℕ → ℕ → ℕ → ℕ → ℕ → ℕ → List (Test ℕ)
 spaceTests t x a f c n room =
     (spaceOver t x a f c gives 8)
     ∷ (flagsIdle a x gives 3)
-    ∷ (noData n gives 10)
+    ∷ (wrongDataLength n gives 10)
     ∷ (ltb room (spaceHeader + n) gives 9)
     ∷ []
 
@@ -36,7 +36,7 @@ spaceRefusal t x a f c n room = first 0 (spaceTests t x a f c n room)
 
 -- what the writer tells, and the output after it
 abbrev pub spaceTold : ℕ → ℕ → ℕ → ℕ → ℕ → List ℕ → List ℕ → List ℕ
-spaceTold t x a f c field out = writing (spaceRefusal t x a f c (length field) (length out)) (spaceOctets t x a f c field)
+spaceTold t x a f c field out = writerTells (spaceRefusal t x a f c (length field) (length out)) (spaceOctets t x a f c field)
 
 abbrev pub spaceAfter : ℕ → ℕ → ℕ → ℕ → ℕ → List ℕ → List ℕ → List ℕ
-spaceAfter t x a f c field out = written (spaceRefusal t x a f c (length field) (length out)) (spaceOctets t x a f c field) out
+spaceAfter t x a f c field out = outputAfter (spaceRefusal t x a f c (length field) (length out)) (spaceOctets t x a f c field) out

@@ -8,9 +8,7 @@ ghost use Rattle.writing.specs.Encapsulation.{shortest, headerOctets, en
 use octets::put_be16;
 use octets::put_be32;
 use octets::put_octet;
-
-// Our limit of octets a packet.
-const LIMIT: usize = 65542;
+use packet::LIMIT;
 
 // The octets of the shortest header that can carry the fields and n octets of content.
 pub(crate) fn shortest_header(protocol: u32, user: u32, n: usize) -> usize
@@ -19,6 +17,7 @@ pub(crate) fn shortest_header(protocol: u32, user: u32, n: usize) -> usize
     if (n == 0) & (user == 0) & (protocol == 0) {
         return 1;
     }
+    // The length of the whole packet stands in one octet, or in two: 2 + n is below 256, or 4 + n below 65,536.
     if (user == 0) & (protocol != 6) & (n < 254) {
         return 2;
     }
@@ -46,6 +45,7 @@ pub(crate) fn refusal(
     if (n == 0) & (protocol != 0) {
         return 6;
     }
+    // The sum of both could overflow, and is not made before it is known to be small.
     if LIMIT - header < n {
         return 10;
     }
@@ -68,6 +68,7 @@ pub(crate) fn put_header(
     requires { ⌜ (header ≡ shortest protocol user n) × (header + n ≤ limit) × (header ≤ length (now out)) ⌝ }
     ensures { λ _. ⌜ now (out .exit) ≡ puts (now (out .entry)) 0 (headerOctets header protocol user extension (header + n)) ⌝ }
 {
+    // 224 is version 111 in the first three bits.
     let first = 224 + protocol * 4;
     let second = user * 16 + extension;
     let size = header + n;

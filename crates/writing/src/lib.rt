@@ -9,6 +9,7 @@ ghost use Rattle.writing.specs.Told.{told};
 use encapsulation::put_header;
 use encapsulation::shortest_header;
 use octets::put_octets;
+use packet::SPACE_HEADER;
 use space::put_space;
 
 // What writing gives: the octets written, or the refusal.
@@ -17,7 +18,8 @@ pub enum Written {
     Refused(u8),
 }
 
-// Writes a Space Packet. Every parameter is wider than its field, so that no value is cut to it unseen: over its width it is refused 8.
+// Writes a Space Packet; kind is its type, 0 telemetry or 1 telecommand. Every parameter is wider than its field, so that no value is cut to it
+// unseen: over its width it is refused 8.
 pub fn write_space(
     kind: u32,
     secondary: u32,
@@ -35,7 +37,7 @@ pub fn write_space(
         return Written::Refused(refusal);
     }
     put_space(out, kind, secondary, apid, flags, count, field);
-    Written::Octets(space::HEADER + field.len())
+    Written::Octets(SPACE_HEADER + field.len())
 }
 
 // Writes an Encapsulation Packet with the shortest header that can carry the fields. Every parameter is wider than its field, as above.

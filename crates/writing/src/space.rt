@@ -7,8 +7,7 @@ ghost use Rattle.packet.specs.Space.{spaceHeader};
 ghost use Rattle.writing.specs.Space.{spaceOctets, spaceRefusal};
 use octets::put_be16;
 use octets::put_octets;
-
-pub(crate) const HEADER: usize = 6;
+use packet::SPACE_HEADER;
 
 // The most octets that a data field has.
 const LONGEST: usize = 65536;
@@ -34,7 +33,7 @@ pub(crate) fn refusal(
     if (n == 0) | (LONGEST < n) {
         return 10;
     }
-    if room < HEADER + n {
+    if room < SPACE_HEADER + n {
         return 9;
     }
     0
@@ -57,5 +56,5 @@ pub(crate) fn put_space(
     put_be16(out, 0, (kind * 4096 + secondary * 2048 + apid) as u16);
     put_be16(out, 2, (flags * 16384 + count) as u16);
     put_be16(out, 4, (field.len() - 1) as u16);
-    put_octets(out, HEADER, field);
+    put_octets(out, SPACE_HEADER, field);
 }

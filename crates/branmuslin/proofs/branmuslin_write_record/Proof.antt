@@ -14,7 +14,7 @@ returns : tie.Need-returns
 returns c =
     let wrote = c .before .before .before .before .write-record in
     let a = c .before .before .before .before .before .before .before .args in (
-      told-octets (writingRefusal (length (now (a .out))) (a .apid) (a .units) (a .packets) (a .missing) (a .broken))
+      told-octets (writingRefusal (a .apid) (a .units) (a .packets) (a .missing) (a .broken) (length (now (a .out))))
           (recordOctets (a .station) (a .apid) (a .units) (a .packets) (a .missing) (a .broken)) 0 _
           (sym (ap toldWritten (c .enum-told .given .1)) ∙ wrote .ensures .0) .0,
       wrote .ensures .1,
@@ -24,7 +24,7 @@ returns-2 : tie.Need-returns-2
 returns-2 c =
     let wrote = c .before .before .before .before .before .write-record in
     let a = c .before .before .before .before .before .before .before .before .args in (
-      told-refusal (writingRefusal (length (now (a .out))) (a .apid) (a .units) (a .packets) (a .missing) (a .broken))
+      told-refusal (writingRefusal (a .apid) (a .units) (a .packets) (a .missing) (a .broken) (length (now (a .out))))
           (recordOctets (a .station) (a .apid) (a .units) (a .packets) (a .missing) (a .broken)) 0 _
           (sym (ap toldWritten (c .before .w .given .1)) ∙ wrote .ensures .0) .0,
       wrote .ensures .1,

@@ -14,10 +14,10 @@ by-difference at n length h =
     (λ f. lt-leb at (length - n) (omega (arith, leb-false (at + n) length f)) ∙ sym f)
 
 returns : tie.Need-returns
-returns c = by-difference (c .before .args .at) (c .before .args .n) (c .before .args .length) (c .if1 .taken)
+returns c = by-difference (c .before .args .at) (c .before .args .n) (c .before .args .octets) (c .if1 .taken)
 
 returns-2 : tie.Need-returns-2
-returns-2 c = sym (lt-leb (c .before .args .at + c .before .args .n) (c .before .args .length) (omega (arith, c .if1 .left)))
+returns-2 c = sym (lt-leb (c .before .args .at + c .before .args .n) (c .before .args .octets) (omega (arith, c .if1 .left)))
 
 pub has-room-spec : {M : Type 1} → statement M
 has-room-spec = tie.close (tie.spec returns returns-2)

@@ -5,7 +5,8 @@ use denote.Ref.{now}
 use lib.ListN.{length}
 use Rattle.octets.proofs.Writers.{accepted, refused}
 use Rattle.record.specs.Record.{recordOctets}
-use Rattle.record.specs.Told.{refusalOf, octetsOf}
+use Rattle.record.specs.Writing.{writingRefusal}
+use Rattle.record.specs.Told.{octetsOf}
 use Rattle.record.proofs.Reading.{no-room, write-impossible, is-written}
 use borrow.Author.Needs.{needs}
 use Rattle.record.proofs.write_record.Statement.{statement}
@@ -15,8 +16,8 @@ returns : tie.Need-returns
 returns c =
     let out = now (c .before .before .args .out) in
     let r = c .before .before .args .r in
-    refused (refusalOf r (length out)) (octetsOf r) out 9 (omega arith)
-    (no-room (length out) (r .apid) (r .units) (r .packets) (r .missing) (r .broken) (omega (arith, c .if1 .taken)))
+    refused (writingRefusal (r .apid) (r .units) (r .packets) (r .missing) (r .broken) (length out)) (octetsOf r) out 9 (omega arith)
+    (no-room (r .apid) (r .units) (r .packets) (r .missing) (r .broken) (length out) (omega (arith, c .if1 .taken)))
 
 returns-2 : tie.Need-returns-2
 unfolding recordOctets
@@ -26,8 +27,8 @@ returns-2 c =
     let out = now (start .args .out) in
     let r = start .args .r in
     let ends =
-    accepted (refusalOf r (length out)) (octetsOf r) out
-    (is-written (length out) (r .apid) (r .units) (r .packets) (r .missing) (r .broken) (omega (arith, there .before .before .if1 .left)) (sym (there .before .is-possible .ensures) ∙ there .if2 .taken)) in
+    accepted (writingRefusal (r .apid) (r .units) (r .packets) (r .missing) (r .broken) (length out)) (octetsOf r) out
+    (is-written (r .apid) (r .units) (r .packets) (r .missing) (r .broken) (length out) (omega (arith, there .before .before .if1 .left)) (sym (there .before .is-possible .ensures) ∙ there .if2 .taken)) in
     (ends .0, c .before .before .put-fields .ensures ∙ ends .1)
 
 returns-3 : tie.Need-returns-3
@@ -35,8 +36,8 @@ returns-3 c =
     let start = c .before .before .before .before in
     let out = now (start .args .out) in
     let r = start .args .r in
-    refused (refusalOf r (length out)) (octetsOf r) out 25 (omega arith)
-    (write-impossible (length out) (r .apid) (r .units) (r .packets) (r .missing) (r .broken) (omega (arith, c .before .before .if1 .left)) (sym (c .before .is-possible .ensures) ∙ c .if2 .left))
+    refused (writingRefusal (r .apid) (r .units) (r .packets) (r .missing) (r .broken) (length out)) (octetsOf r) out 25 (omega arith)
+    (write-impossible (r .apid) (r .units) (r .packets) (r .missing) (r .broken) (length out) (omega (arith, c .before .before .if1 .left)) (sym (c .before .is-possible .ensures) ∙ c .if2 .left))
 
 pub write-record-spec : {M : Type 1} → statement M
 write-record-spec = tie.close (tie.spec returns (λ c κs. search needs) (λ c κs. search needs) (λ c. search needs) returns-2 returns-3)

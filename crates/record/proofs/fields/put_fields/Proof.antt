@@ -1,4 +1,4 @@
--- The fields are put one after the other.
+-- The fields are put one after the other, which is one text put once (`Puts`).
 use mathlib.Core.Path.{refl}
 use mathlib.Core.List.{_++_}
 use native.Mathlib.Omega.{arith}

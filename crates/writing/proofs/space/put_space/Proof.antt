@@ -1,4 +1,4 @@
--- The header's three numbers and the data are put one after the other.
+-- The header's three numbers and the data are put one after the other, which is one text put once (`Puts`).
 use Prim.Native.Nat.{_+_, _*_, _-_}
 use mathlib.Core.Path.{refl}
 use mathlib.Core.List.{_++_}

@@ -1,0 +1,43 @@
+-- Each number is given exactly when its test holds and every test before it fails: the law of every order, at the orders of the writers. And an
+-- output as long as the longest packet always suffices.
+use Prim.Native.Nat.{ℕ, _+_, _≤_}
+use mathlib.Core.Path.{_≡_}
+use mathlib.Core.Bool.{not, _&&_}
+use native.Mathlib.Omega.{arith}
+use borrow.Author.Tests.{le-ltb, ltb-false}
+use lib.Dec.{eqb, ltb}
+use Rattle.octets.specs.Order.{Because}
+use Rattle.octets.proofs.Order.{either, neither, exactly}
+use Rattle.packet.specs.Space.{spaceHeader, flagsIdle}
+use Rattle.packet.specs.Encapsulation.{extendsAnother}
+use Rattle.packet.specs.Reading.{limit}
+use Rattle.writing.specs.Space.{spaceOver, wrongDataLength, spaceTests, spaceRefusal}
+use Rattle.writing.specs.Encapsulation.{shortest, encapOver, encapTests, encapRefusal}
+
+module _ (t x a f c n room : ℕ) where
+  pub space-exactly : (k : ℕ) → (spaceRefusal t x a f c n room ≡ k → Because 0 (spaceTests t x a f c n room) k) × (Because 0 (spaceTests t x a f c n room) k → spaceRefusal t x a f c n room ≡ k)
+  unfolding spaceRefusal
+  space-exactly k = exactly 0 (spaceTests t x a f c n room) k
+
+  pub space-room : limit ≤ room → spaceRefusal t x a f c n room ≡ 9 → ⊥
+  unfolding spaceRefusal
+  space-room h e =
+      either (spaceOver t x a f c) (λ o. omega (arith, simp o at e))
+      (λ o. either (flagsIdle a x) (λ i. omega (arith, simp (o, i) at e))
+      (λ i. either (wrongDataLength n) (λ d. omega (arith, simp (o, i, d) at e))
+      (λ d. let most = ltb-false 65536 n (neither (eqb n 0) (ltb 65536 n) d .1) in
+      omega (arith, simp (o, i, d, le-ltb room (spaceHeader + n) (omega (arith, most))) at e))))
+
+module _ (p u x n room : ℕ) where
+  pub encap-exactly : (k : ℕ) → (encapRefusal p u x n room ≡ k → Because 0 (encapTests p u x n room) k) × (Because 0 (encapTests p u x n room) k → encapRefusal p u x n room ≡ k)
+  unfolding encapRefusal
+  encap-exactly k = exactly 0 (encapTests p u x n room) k
+
+  pub encap-room : limit ≤ room → encapRefusal p u x n room ≡ 9 → ⊥
+  unfolding encapRefusal
+  encap-room h e =
+      either (encapOver p u x) (λ o. omega (arith, simp o at e))
+      (λ o. either (extendsAnother p x) (λ i. omega (arith, simp (o, i) at e))
+      (λ i. either (eqb n 0 && not (eqb p 0)) (λ d. omega (arith, simp (o, i, d) at e))
+      (λ d. either (ltb limit (shortest p u n + n)) (λ l. omega (arith, simp (o, i, d, l) at e))
+      (λ l. omega (arith, simp (o, i, d, l, le-ltb room (shortest p u n + n) (omega (arith, ltb-false limit (shortest p u n + n) l))) at e)))))
