@@ -1,5 +1,5 @@
 -- The Encapsulation Packet. First octet: version 111, protocol ID 3 bits, length of length 2 bits. A field that is not present reads as 0.
-use Prim.Native.Nat.{ℕ, _/_, _%_}
+use Prim.Native.Nat.{ℕ, _-_, _/_, _%_}
 use mathlib.Core.List.{List}
 use mathlib.Core.Bool.{Bool, cond, not, _&&_, _||_}
 use lib.Dec.{ltb, eqb}
@@ -51,6 +51,9 @@ misnames h p x f = (eqb p 6 && ltb h 4) || extendsAnother p x || not (eqb f 0)
 abbrev pub misnamed : List ℕ → Bool
 misnamed s = misnames (encapHeader s) (protocol s) (extension s) (ccsds s)
 
--- no content and protocol ID not 0
+-- no content and protocol ID not 0: of n octets of content and protocol ID p
+abbrev pub namesEmpty : ℕ → ℕ → Bool
+namesEmpty n p = eqb n 0 && not (eqb p 0)
+
 abbrev pub emptyNamed : List ℕ → Bool
-emptyNamed s = eqb (encapSize s) (encapHeader s) && not (eqb (protocol s) 0)
+emptyNamed s = namesEmpty (encapSize s - encapHeader s) (protocol s)

@@ -88,7 +88,8 @@ pub(crate) fn read(s: &[u8]) -> Packet
     if LIMIT < size {
         return Packet::Refused(5);
     }
-    if (size == header as usize) & (protocol != 0) {
+    let octets = size - header as usize;
+    if (octets == 0) & (protocol != 0) {
         return Packet::Refused(6);
     }
     if s.len() < size {
@@ -99,6 +100,6 @@ pub(crate) fn read(s: &[u8]) -> Packet
         user: second / 16 % 16,
         extension: second % 16,
         header,
-        octets: (size - header as usize) as u32,
+        octets: octets as u32,
     }
 }

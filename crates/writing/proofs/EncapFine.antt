@@ -2,13 +2,13 @@
 use Prim.Native.Nat.{ℕ, _+_, _≤_, _<_}
 use mathlib.Core.Path.{_≡_}
 use mathlib.Core.List.{List}
-use mathlib.Core.Bool.{false, not, _&&_, _||_}
+use mathlib.Core.Bool.{false, _||_}
 use native.Mathlib.Omega.{arith}
 use borrow.Author.Tests.{lt-leb, le-ltb, leb-false, ltb-false}
-use lib.Dec.{eqb, ltb}
+use lib.Dec.{ltb}
 use lib.ListN.{length, length-append}
 use Rattle.octets.proofs.Order.{either, neither}
-use Rattle.packet.specs.Encapsulation.{extendsAnother}
+use Rattle.packet.specs.Encapsulation.{extendsAnother, namesEmpty}
 use Rattle.packet.specs.Reading.{limit}
 use Rattle.writing.specs.Fields.{over}
 use Rattle.writing.specs.Encapsulation.{shortest, headerOctets, encapOctetsWith, encapOctets, encapOver, encapRefusal}
@@ -20,12 +20,12 @@ module _ (p u x n room : ℕ) where
     pub user : u < 16
     pub extension : x < 16
     pub extends : extendsAnother p x ≡ false
-    pub named : eqb n 0 && not (eqb p 0) ≡ false
+    pub named : namesEmpty n p ≡ false
     pub limited : shortest p u n + n ≤ limit
     pub fits : shortest p u n + n ≤ room
 
   -- the tests that failed, as facts
-  pub all-failed : encapOver p u x ≡ false → extendsAnother p x ≡ false → eqb n 0 && not (eqb p 0) ≡ false
+  pub all-failed : encapOver p u x ≡ false → extendsAnother p x ≡ false → namesEmpty n p ≡ false
       → shortest p u n + n ≤ limit → shortest p u n + n ≤ room → Fine
   all-failed over′ extends named limited fits =
       let (pu, x′) = neither (over 3 p || over 4 u) (over 4 x) over′ in
@@ -45,7 +45,7 @@ module _ (p u x n room : ℕ) where
   fine e =
       either (encapOver p u x) (λ h. absurd (omega (arith, simp h at e)))
       (λ o. either (extendsAnother p x) (λ h. absurd (omega (arith, simp (o, h) at e)))
-      (λ i. either (eqb n 0 && not (eqb p 0)) (λ h. absurd (omega (arith, simp (o, i, h) at e)))
+      (λ i. either (namesEmpty n p) (λ h. absurd (omega (arith, simp (o, i, h) at e)))
       (λ d. either (ltb limit (shortest p u n + n)) (λ h. absurd (omega (arith, simp (o, i, d, h) at e)))
       (λ l. either (ltb room (shortest p u n + n)) (λ h. absurd (omega (arith, simp (o, i, d, l, h) at e)))
       (λ r. all-failed o i d (ltb-false limit (shortest p u n + n) l) (ltb-false room (shortest p u n + n) r))))))

@@ -3,10 +3,10 @@
 use Prim.Native.Nat.{ℕ, _+_, _*_, _-_, _/_, _%_, _≤_, _<_}
 use mathlib.Core.Path.{_≡_, refl, sym, ap, subst, _∙_}
 use mathlib.Core.List.{List, [], _∷_, _++_, append-assoc}
-use mathlib.Core.Bool.{Bool, true, false, cond, not, _&&_, _||_}
+use mathlib.Core.Bool.{Bool, true, false, cond, _&&_, _||_}
 use native.Mathlib.Nat.{mod-eq-of-lt, mul-add-mod-self-right}
 use native.Mathlib.Omega.{arith}
-use borrow.Author.Tests.{eq-eqb, ne-eqb, eqb-true, eqb-false, not-false}
+use borrow.Author.Tests.{eq-eqb, ne-eqb, eqb-true, not-false}
 use lib.Dec.{eqb, ltb}
 use lib.ListN.{length, take, drop, length-append}
 use lib.Seq.{take-append-seam, drop-at}
@@ -14,7 +14,7 @@ use Rattle.octets.specs.Octets.{octet, be16}
 use Rattle.octets.proofs.Order.{either}
 use Rattle.octets.proofs.Again.{read-two, read-four}
 use Rattle.packet.specs.Space.{version}
-use Rattle.packet.specs.Encapsulation.{protocol, headerFor, encapHeader, second, user, extension, ccsds, sizeFor, encapSize, extendsAnother, misnames, misnamed, emptyNamed}
+use Rattle.packet.specs.Encapsulation.{protocol, headerFor, encapHeader, second, user, extension, ccsds, sizeFor, encapSize, extendsAnother, misnames, misnamed, namesEmpty, emptyNamed}
 use Rattle.packet.specs.Reading.{limit, header, size, refusal, fields, reading, content, contentAt}
 use Rattle.packet.specs.Causes.{Whole, encapsulation, EncapThere, EncapLong}
 use Rattle.packet.proofs.Exactly.{whole-gives, accepted}
@@ -27,7 +27,7 @@ pub record Legal (h p u x n : ℕ) : Type 0 where
   pub user′ : u < 16
   pub extension′ : x < 16
   pub extends : extendsAnother p x ≡ false
-  pub named : eqb n 0 && not (eqb p 0) ≡ false
+  pub named : namesEmpty n p ≡ false
   pub limited : h + n ≤ limit
 
 -- an extension needs protocol ID 6
@@ -53,8 +53,8 @@ none-holds false = refl
 same-misnames : {h k p q x y f g : ℕ} → h ≡ k → p ≡ q → x ≡ y → f ≡ g → misnames h p x f ≡ misnames k q y g
 same-misnames a b c d = cc
 
-same-empty : {n m h k p q : ℕ} → n ≡ m → h ≡ k → p ≡ q → eqb n h && not (eqb p 0) ≡ eqb m k && not (eqb q 0)
-same-empty a b c = cc
+same-empty : {n m p q : ℕ} → n ≡ m → p ≡ q → namesEmpty n p ≡ namesEmpty m q
+same-empty a b = cc
 
 -- each field comes back
 record Same (s : List ℕ) (h p u x n : ℕ) : Type 0 where
@@ -148,12 +148,9 @@ module _ (h p u x : ℕ) (given rest : List ℕ) (fit : Fit h p u (length given)
       not-short (eight e) = rw e (none-holds (eqb p 6))
 
   not-empty : emptyNamed s ≡ false
-  not-empty = same-empty (back .size-is) (back .header-is) (back .protocol-is) ∙ ap (λ b. b && not (eqb p 0)) same-test ∙ ok .named
-    where
-      same-test : eqb (h + length given) h ≡ eqb (length given) 0
-      same-test =
-          either (eqb (length given) 0) (λ t. eq-eqb (h + length given) h (omega (arith, eqb-true (length given) 0 t)) ∙ sym t)
-          (λ f. ne-eqb (h + length given) h (λ z. eqb-false (length given) 0 f (omega (arith, z))) ∙ sym f)
+  not-empty =
+      let n : encapSize s - encapHeader s ≡ length given = omega (arith, back .size-is, back .header-is) in
+      same-empty n (back .protocol-is) ∙ ok .named
 
   whole : Whole s
   whole =

@@ -2,14 +2,13 @@
 -- output as long as the longest packet always suffices.
 use Prim.Native.Nat.{ℕ, _+_, _≤_}
 use mathlib.Core.Path.{_≡_}
-use mathlib.Core.Bool.{not, _&&_}
 use native.Mathlib.Omega.{arith}
 use borrow.Author.Tests.{le-ltb, ltb-false}
 use lib.Dec.{eqb, ltb}
 use Rattle.octets.specs.Order.{Because}
 use Rattle.octets.proofs.Order.{either, neither, exactly}
 use Rattle.packet.specs.Space.{spaceHeader, flagsIdle}
-use Rattle.packet.specs.Encapsulation.{extendsAnother}
+use Rattle.packet.specs.Encapsulation.{extendsAnother, namesEmpty}
 use Rattle.packet.specs.Reading.{limit}
 use Rattle.writing.specs.Space.{spaceOver, wrongDataLength, spaceTests, spaceRefusal}
 use Rattle.writing.specs.Encapsulation.{shortest, encapOver, encapTests, encapRefusal}
@@ -38,6 +37,6 @@ module _ (p u x n room : ℕ) where
   encap-room h e =
       either (encapOver p u x) (λ o. omega (arith, simp o at e))
       (λ o. either (extendsAnother p x) (λ i. omega (arith, simp (o, i) at e))
-      (λ i. either (eqb n 0 && not (eqb p 0)) (λ d. omega (arith, simp (o, i, d) at e))
+      (λ i. either (namesEmpty n p) (λ d. omega (arith, simp (o, i, d) at e))
       (λ d. either (ltb limit (shortest p u n + n)) (λ l. omega (arith, simp (o, i, d, l) at e))
       (λ l. omega (arith, simp (o, i, d, l, le-ltb room (shortest p u n + n) (omega (arith, ltb-false limit (shortest p u n + n) l))) at e)))))

@@ -5,7 +5,7 @@ use mathlib.Core.Path.{_≡_, refl, sym, ap, _∙_}
 use mathlib.Core.List.{List, [], _∷_, _++_, append-nil}
 use mathlib.Core.Bool.{true, false, cond, not, _&&_, _||_, true≢false}
 use native.Mathlib.Omega.{arith}
-use borrow.Author.Tests.{eq-eqb, ne-eqb, lt-ltb, le-ltb, ltb-true, ltb-false, eqb-true, eqb-false, not-false}
+use borrow.Author.Tests.{eq-eqb, ne-eqb, lt-ltb, le-ltb, ltb-true, ltb-false, eqb-true, not-false}
 use lib.Dec.{eqb, ltb}
 use lib.ListN.{length}
 use Rattle.octets.specs.Octets.{octet, be16, AreOctets}
@@ -61,7 +61,7 @@ module _ (s : List ℕ) (small : AreOctets s) (good : EncapGood s) where
       true≢false (sym (simp (eq-eqb (protocol s) 6 six) (ap (λ k. ltb k 4) e ∙ t)) ∙ b .0)
 
   idle : encapSize s ≡ encapHeader s → protocol s ≡ 0
-  idle e = eqb-true _ _ (not-false _ (simp (eq-eqb (encapSize s) (encapHeader s) e) at (good .1)))
+  idle e = eqb-true _ _ (not-false _ (simp (eq-eqb n 0 (omega (arith, e))) at (good .1)))
 
   pub at-most : Kind s → shortest (protocol s) (user s) n ≤ encapHeader s
   at-most (one l e) =
@@ -162,11 +162,6 @@ module _ (s : List ℕ) (small : AreOctets s) (good : EncapGood s) (room : ℕ) 
   abbrev m : ℕ
   m = encapSize s - encapHeader s
 
-  same-test : eqb m 0 ≡ eqb (encapSize s) (encapHeader s)
-  same-test =
-      either (eqb (encapSize s) (encapHeader s)) (λ t. eq-eqb m 0 (omega (arith, eqb-true (encapSize s) (encapHeader s) t)) ∙ sym t)
-      (λ f. ne-eqb m 0 (λ z. eqb-false (encapSize s) (encapHeader s) f (omega (arith, z, good .0 .0 .1))) ∙ sym f)
-
   pub accepted-again : shortest (protocol s) (user s) m + m ≤ room → encapRefusal (protocol s) (user s) (extension s) m room ≡ 0
   accepted-again fits =
       let low = at-most s small good (kind s) in
@@ -178,7 +173,7 @@ module _ (s : List ℕ) (small : AreOctets s) (good : EncapGood s) (room : ℕ) 
         user = omega arith;
         extension = omega arith;
         extends = b .1;
-        named = ap (λ t. t && not (eqb (protocol s) 0)) same-test ∙ good .1;
+        named = good .1;
         limited = omega (arith, low, good .0 .0 .1, good .0 .1);
         fits = fits;
       })

@@ -7,7 +7,7 @@ use lib.Dec.{eqb, ltb}
 use Rattle.octets.specs.Octets.{octets2, octets4}
 use Rattle.octets.specs.Order.{Test, _gives_, first}
 use Rattle.octets.specs.Output.{writerTells, outputAfter}
-use Rattle.packet.specs.Encapsulation.{extendsAnother}
+use Rattle.packet.specs.Encapsulation.{extendsAnother, namesEmpty}
 use Rattle.packet.specs.Reading.{limit}
 use Rattle.writing.specs.Fields.{over}
 
@@ -50,7 +50,7 @@ abbrev pub encapTests : ℕ → ℕ → ℕ → ℕ → ℕ → List (Test ℕ)
 encapTests p u x n room =
     (encapOver p u x gives 8)
     ∷ (extendsAnother p x gives 7)
-    ∷ (eqb n 0 && not (eqb p 0) gives 6)
+    ∷ (namesEmpty n p gives 6)
     ∷ (ltb limit (shortest p u n + n) gives 10)
     ∷ (ltb room (shortest p u n + n) gives 9)
     ∷ []

@@ -70,4 +70,4 @@ returns-7 c =
     at (accepted {s = s} (encapsulation (((k .0, omega arith), omega arith), e) (omega arith))))
 
 pub read-spec : {M : Type 1} → statement M
-read-spec = tie.close (tie.spec (λ c κs. search needs) (λ c κs. search needs) (λ c. search needs) returns (λ c κs. search needs) (λ c κs. search needs) (λ c κs. search needs) returns-2 (λ c κs. search needs) (λ c. search needs) returns-3 returns-4 (λ c. search needs) returns-5 returns-6 (λ c. search needs) (λ c. search needs) (λ c. search needs) returns-7)
+read-spec = tie.close (tie.spec (λ c κs. search needs) (λ c κs. search needs) (λ c. search needs) returns (λ c κs. search needs) (λ c κs. search needs) (λ c κs. search needs) returns-2 (λ c κs. search needs) (λ c. search needs) returns-3 returns-4 (λ c. search needs) (λ c. search needs) returns-5 returns-6 (λ c. search needs) returns-7)
