@@ -22,7 +22,8 @@ all: $(archive) $(examples)
 $(archive): crates.txt $(shell find crates)
 	$(if $(shell command -v rt 2>&1),,$(error $(no_rt)))
 	@mkdir -p target && touch target/staticlib.begun
-	rt staticlib branmuslin
+	@echo 'proving and building the library; from nothing this takes a minute or two'
+	@rt staticlib branmuslin >target/staticlib.log 2>&1 || { tail -n 20 target/staticlib.log >&2; echo 'the library was not proved or built; see target/staticlib.log' >&2; exit 1; }
 	@touch -c -r target/staticlib.begun $@ && rm -f target/staticlib.begun
 
 target/examples/%: examples/%.c $(header) $(archive)
@@ -30,6 +31,7 @@ target/examples/%: examples/%.c $(header) $(archive)
 	$(CC) -Iinclude $(CPPFLAGS) $(CFLAGS) $(LDFLAGS) -o $@ $< $(archive)
 
 install: $(archive)
+	$(if $(filter /%,$(PREFIX)),,$(error PREFIX is to be a whole path, and is '$(PREFIX)'))
 	$(INSTALL) -d '$(include_to)' '$(lib_to)/pkgconfig'
 	$(INSTALL) -m 644 $(header) '$(include_to)/branmuslin.h'
 	$(INSTALL) -m 644 $(archive) '$(lib_to)/libbranmuslin.a'
@@ -40,4 +42,4 @@ uninstall:
 	rm -f '$(include_to)/branmuslin.h' '$(lib_to)/libbranmuslin.a' '$(lib_to)/pkgconfig/branmuslin.pc'
 
 clean:
-	rm -rf target/examples $(archive) target/staticlib.begun
+	rm -rf target/examples $(archive) target/staticlib.begun target/staticlib.log

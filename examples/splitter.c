@@ -2,7 +2,9 @@
  * splitter: splits a recording, packets one after another in a file, by the library branmuslin.
  *
  *     cc splitter.c $(pkg-config --cflags --libs branmuslin) -o splitter
- *     splitter FILE [APID OUTPUT]
+ *     ./splitter FILE [APID OUTPUT]
+ *
+ * (Where the library is installed in a folder of its own, PKG_CONFIG_PATH names its lib/pkgconfig.)
  *
  * It prints a line a packet, which begins with the packet's offset in the file:
  *
@@ -15,7 +17,7 @@
  *     13 refused 1 left=2: the octets end before the header or the packet does
  *
  * With APID (0 to 2047) and OUTPUT it also writes the data fields of that APID's Space Packets, one after another, to OUTPUT. A secondary
- * header is a part of the data field, and only the mission knows how long it is.
+ * header is a part of the data field, and only the mission knows how long it is. Where a packet is refused, OUTPUT has the data up to there.
  *
  * Status: 0 the whole file was split; 1 a file can't be read or written, or memory is short; 2 a wrong call; 3 a packet was refused.
  */
@@ -67,7 +69,7 @@ static uint8_t *read_all(FILE *file, size_t *length)
 
 static void print_packet(size_t at, const struct branmuslin_packet *p)
 {
-    if (p->version == 0)
+    if (p->version == BRANMUSLIN_SPACE)
         printf("%zu space type=%u secondary=%u apid=%u flags=%u count=%u data=%u\n", at, (unsigned)p->type, (unsigned)p->secondary,
                (unsigned)p->apid, (unsigned)p->flags, (unsigned)p->count, (unsigned)p->length);
     else
@@ -99,7 +101,7 @@ static int split(const uint8_t *octets, size_t length, const struct sink *sink)
             return REFUSED;
         }
         print_packet(at, &packet);
-        if (sink->file && packet.version == 0 && packet.apid == sink->apid &&
+        if (sink->file && packet.version == BRANMUSLIN_SPACE && packet.apid == sink->apid &&
             fwrite(octets + at + packet.offset, 1, packet.length, sink->file) != packet.length)
             return fail("can't write", sink->path);
     }
@@ -140,6 +142,10 @@ int main(int argc, char **argv)
     struct sink sink = {argc == 4 ? argv[3] : NULL, NULL, 0};
     if (argc != 2 && argc != 4) {
         fputs("usage: splitter FILE [APID OUTPUT]\n", stderr);
+        return WRONG_CALL;
+    }
+    if (argc == 4 && strcmp(argv[1], argv[3]) == 0) {
+        fprintf(stderr, "splitter: OUTPUT would overwrite %s\n", argv[1]);
         return WRONG_CALL;
     }
     if (argc == 4 && !parse_apid(argv[2], &sink.apid)) {

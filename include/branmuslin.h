@@ -1,8 +1,9 @@
 /*
  * branmuslin.h: reads and writes CCSDS Space Packets (133.0-B-2), Encapsulation Packets (133.1-B-2) and credit records.
  *
- * A static library for Linux on x86-64; the flags stand after the source files: cc program.c $(pkg-config --cflags --libs branmuslin).
- * It needs no other library, allocates nothing, keeps nothing between calls and has no state: any thread may call it at any time.
+ * A static library for Linux on x86-64, for programs and shared objects; the flags stand after the source files:
+ * cc program.c $(pkg-config --cflags --libs branmuslin). It needs no other library, allocates nothing, keeps nothing between calls and has no
+ * state: any thread may call it at any time.
  *
  * What holds for every function:
  *
@@ -12,8 +13,8 @@
  *   (One exception, by its purpose: *index of branmuslin_read_record_file, which belongs to refusal 25.)
  * - Pointers must not be null. A length of 0 needs no valid octets, but a pointer that is not null all the same: what malloc(0) or an empty
  *   std::vector gives may be null.
- * - What is lent to one call must not overlap: input, output, struct and numbers are separate pieces of memory. So a packet can't be written in
- *   place around its data.
+ * - What is lent to one call must not overlap: input, output, struct and numbers are separate memory (parts of one array that do not
+ *   overlap are). So a packet can't be written in place around its data.
  * - A length counts octets, and that many must be valid behind its pointer. Octets beyond it are neither read nor written.
  */
 #ifndef BRANMUSLIN_H
@@ -28,6 +29,13 @@ extern "C" {
 
 #define BRANMUSLIN_RELEASE "0.1.0"
 
+/* The compiler warns of a null that it sees. */
+#ifdef __GNUC__
+#define BRANMUSLIN_NOT_NULL __attribute__((nonnull))
+#else
+#define BRANMUSLIN_NOT_NULL
+#endif
+
 /* What the functions return: 0, or the refusal. */
 enum {
     BRANMUSLIN_DONE = 0,           /* nothing was refused */
@@ -39,14 +47,22 @@ enum {
     BRANMUSLIN_NO_CONTENT = 6,     /* no content, and the protocol ID is not 0 */
     BRANMUSLIN_NAMES_NOTHING = 7,  /* protocol ID 6 in a header of 1 or 2 octets; or an extension that is not 0 with another ID; or a
                                       CCSDS field that is not 0 */
-    BRANMUSLIN_OVER_WIDTH = 8,     /* a field given to a writer is over its width */
+    BRANMUSLIN_OVER_WIDTH = 8,     /* a field given to a packet's writer is over its width */
     BRANMUSLIN_NO_ROOM = 9,        /* the output is too short for the packet or record */
     BRANMUSLIN_DATA_LENGTH = 10,   /* data to write: none, or over 65,536 octets (Space); a packet over 65,542 octets (Encapsulation) */
     BRANMUSLIN_NOT_POSSIBLE = 25,  /* the record is not possible */
     BRANMUSLIN_NOT_RECORDS = 26    /* a record file that is not a multiple of 20 octets, or a single record that is not 20 */
 };
 
-/* Octets of the longest packet of either kind, and of a record: an output of these lengths always suffices. */
+/* The version of either kind of packet, the sequence flags of a Space Packet, and the APID of idle ones. */
+enum { BRANMUSLIN_SPACE = 0, BRANMUSLIN_ENCAPSULATION = 7 };
+enum { BRANMUSLIN_CONTINUATION = 0, BRANMUSLIN_FIRST = 1, BRANMUSLIN_LAST = 2, BRANMUSLIN_UNSEGMENTED = 3 };
+enum { BRANMUSLIN_IDLE_APID = 2047 };
+
+/*
+ * Octets of the longest packet of either kind, and of a record: an output of these lengths always suffices. So do data_length + 6 for a Space
+ * Packet and content_length + 8 for an Encapsulation Packet.
+ */
 #define BRANMUSLIN_LONGEST_PACKET 65542
 #define BRANMUSLIN_RECORD_LENGTH 20
 
@@ -56,7 +72,7 @@ enum {
 
 /* What reading a packet tells: eleven numbers of 32 bits, one after another. The packet has offset + length octets in all. */
 struct branmuslin_packet {
-    uint32_t version;   /* 0: a Space Packet; 7: an Encapsulation Packet */
+    uint32_t version;   /* 0 (BRANMUSLIN_SPACE) or 7 (BRANMUSLIN_ENCAPSULATION) */
 
     /* The fields of a Space Packet; each is 0 for an Encapsulation Packet. */
     uint32_t type;      /* 0 telemetry, 1 telecommand */
@@ -86,7 +102,7 @@ struct branmuslin_packet {
  * Returns 0 with *packet set; or 1 to 7, with *packet as it was. The order: 1 for no octets, 2, 1 for the header, then 3 (Space) or 7, 4, 5, 6
  * (Encapsulation), then 1 for the packet.
  */
-uint8_t branmuslin_read_packet(const uint8_t *octets, size_t octets_length, struct branmuslin_packet *packet);
+uint8_t branmuslin_read_packet(const uint8_t *octets, size_t octets_length, struct branmuslin_packet *packet) BRANMUSLIN_NOT_NULL;
 
 /*
  * Writes a Space Packet at the front of the output: six header octets, then the data, which has 1 to 65,536 octets. The fields are given in
@@ -100,12 +116,13 @@ uint8_t branmuslin_read_packet(const uint8_t *octets, size_t octets_length, stru
  *   9   the output is shorter than the packet.
  */
 uint8_t branmuslin_write_space(uint32_t type, uint32_t secondary, uint32_t apid, uint32_t flags, uint32_t count, const uint8_t *data,
-                               size_t data_length, uint8_t *output, size_t output_length, size_t *written);
+                               size_t data_length, uint8_t *output, size_t output_length, size_t *written) BRANMUSLIN_NOT_NULL;
 
 /*
  * Writes an Encapsulation Packet at the front of the output: the shortest header that can carry the fields (1, 2, 4 or 8 octets), then the
  * content. One octet only for no content, user 0 and protocol 0; at least 4 where user is not 0 or protocol is 6. The CCSDS field is 0.
- * Protocol 0 (idle) may have content; every other protocol must.
+ * Protocol 0 (idle) may have content; every other protocol must. For no content, pass any pointer that is not null, such as
+ * (const uint8_t *)"".
  *
  * Returns 0 with the packet in the output and its octets, header and content, in *written; every octet of the output after the packet stays as
  * it was. Or returns, in this order, and with the output and *written as they were:
@@ -116,19 +133,20 @@ uint8_t branmuslin_write_space(uint32_t type, uint32_t secondary, uint32_t apid,
  *   9   the output is shorter than the packet.
  */
 uint8_t branmuslin_write_encapsulation(uint32_t protocol, uint32_t user, uint32_t extension, const uint8_t *content, size_t content_length,
-                                       uint8_t *output, size_t output_length, size_t *written);
+                                       uint8_t *output, size_t output_length, size_t *written) BRANMUSLIN_NOT_NULL;
 
 /*
- * A credit record: six numbers of 32 bits, one after another. It is possible if apid is at most 2046, packets at most 262,144, units + broken at
- * most packets, and missing at most 16,382 x (packets - 1), or 0 if packets is 0.
+ * A credit record, what a station is credited with for the packets of one APID: six numbers of 32 bits, one after another. It is possible if
+ * apid is at most 2046, packets at most 262,144, units + broken at most packets, and missing at most 16,382 x (packets - 1), or 0 if packets
+ * is 0. (Between two packets whose counts differ at most 16,382 can be missing, and a packet that repeats the last count is not counted.)
  */
 struct branmuslin_record {
-    uint32_t station; /* 0 to 65,535 */
-    uint32_t apid;
-    uint32_t units;
-    uint32_t packets;
-    uint32_t missing;
-    uint32_t broken;
+    uint32_t station; /* station number, 0 to 65,535 */
+    uint32_t apid;    /* 0 to 2046, so not the idle one */
+    uint32_t units;   /* units: unsegmented packets, and groups that were completed */
+    uint32_t packets; /* packets that were taken */
+    uint32_t missing; /* packets that the sequence counts show to be missing */
+    uint32_t broken;  /* groups that were given up before they were complete */
 };
 
 /*
@@ -141,7 +159,7 @@ struct branmuslin_record {
  * elsewhere before you pass them on. Those of a record that was read always fit.
  */
 uint8_t branmuslin_write_record(uint16_t station, uint16_t apid, uint32_t units, uint32_t packets, uint32_t missing, uint32_t broken,
-                                uint8_t *output, size_t output_length);
+                                uint8_t *output, size_t output_length) BRANMUSLIN_NOT_NULL;
 
 /*
  * Reads one record.
@@ -150,7 +168,7 @@ uint8_t branmuslin_write_record(uint16_t station, uint16_t apid, uint32_t units,
  *   26  there are not exactly 20 octets;
  *   25  the record is not possible.
  */
-uint8_t branmuslin_read_record(const uint8_t *octets, size_t octets_length, struct branmuslin_record *record);
+uint8_t branmuslin_read_record(const uint8_t *octets, size_t octets_length, struct branmuslin_record *record) BRANMUSLIN_NOT_NULL;
 
 /*
  * Reads a file of records, one after another; a file of none is good. The record of index i is the 20 octets from octets + 20 * i on.
@@ -159,7 +177,7 @@ uint8_t branmuslin_read_record(const uint8_t *octets, size_t octets_length, stru
  *   26  the octets are not a multiple of 20; *index stays as it was too;
  *   25  some record is not possible; *index is set to the index of the first such record, counted from 0.
  */
-uint8_t branmuslin_read_record_file(const uint8_t *octets, size_t octets_length, size_t *records, size_t *index);
+uint8_t branmuslin_read_record_file(const uint8_t *octets, size_t octets_length, size_t *records, size_t *index) BRANMUSLIN_NOT_NULL;
 
 #ifdef __cplusplus
 }

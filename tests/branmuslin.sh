@@ -59,6 +59,7 @@ fi
 check 'branmuslin help' helps
 check 'branmuslin: no word' refuses 'which word' ./branmuslin
 check 'branmuslin: an unknown word' refuses "unknown word 'lits'" ./branmuslin lits
+check 'branmuslin list: an unknown option' refuses "unknown option '-x'" ./branmuslin list -x
 check 'branmuslin list: a missing file' refuses 'no such file: nowhere' ./branmuslin list nowhere
 check 'branmuslin list: a folder' refuses 'folder' ./branmuslin list samples
 check 'branmuslin list: two files' refuses 'one file' ./branmuslin list samples/paper.bin samples/every.bin

@@ -160,7 +160,8 @@ splitter_bad_apid() {
 
 splitter_usage() {
     splitter_fails 2 'usage: splitter FILE [APID OUTPUT]' && splitter_fails 2 'usage: ' "$work/cut.bin" 42 &&
-        splitter_fails 2 'usage: ' "$work/cut.bin" 42 "$work/data" more
+        splitter_fails 2 'usage: ' "$work/cut.bin" 42 "$work/data" more &&
+        splitter_fails 2 'OUTPUT would overwrite' "$work/cut.bin" 42 "$work/cut.bin" && [ "$(wc -c <"$work/cut.bin")" -eq 16 ]
 }
 
 splitter_unreadable() {

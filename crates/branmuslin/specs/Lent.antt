@@ -24,11 +24,11 @@ abbrev pub packetAfter : List ℕ → List ℕ → List ℕ
 packetAfter s old = unlessRefused (refusal s) (packetNumbers s) old
 
 -- the octets written
-abbrev pub spaceOctetsAfter : ℕ → ℕ → ℕ → ℕ → ℕ → List ℕ → List ℕ → ℕ → ℕ
-spaceOctetsAfter t x a f c field out old = unlessRefused (spaceRefusal t x a f c (length field) (length out)) (length (spaceOctets t x a f c field)) old
+abbrev pub spaceWrittenAfter : ℕ → ℕ → ℕ → ℕ → ℕ → List ℕ → List ℕ → ℕ → ℕ
+spaceWrittenAfter t x a f c field out old = unlessRefused (spaceRefusal t x a f c (length field) (length out)) (length (spaceOctets t x a f c field)) old
 
-abbrev pub encapOctetsAfter : ℕ → ℕ → ℕ → List ℕ → List ℕ → ℕ → ℕ
-encapOctetsAfter p u x given out old = unlessRefused (encapRefusal p u x (length given) (length out)) (length (encapOctets p u x given)) old
+abbrev pub encapWrittenAfter : ℕ → ℕ → ℕ → List ℕ → List ℕ → ℕ → ℕ
+encapWrittenAfter p u x given out old = unlessRefused (encapRefusal p u x (length given) (length out)) (length (encapOctets p u x given)) old
 
 -- struct branmuslin_record
 abbrev pub recordNumbersAfter : List ℕ → List ℕ → List ℕ

@@ -1,5 +1,6 @@
 // The C library: the functions that include/branmuslin.h declares, thin over the proved ones. Each returns the number of the refusal, or 0,
-// and where it refuses leaves everything that was lent to it as it was (but for the index that belongs to refusal 25 of a record file).
+// and where it refuses leaves everything that was lent to it as it was (but for the index that belongs to refusal 25 of a record file). A slice
+// is a pointer and a length in C; kind, field and out are type, data and output in the header.
 mod numbers;
 
 ghost use mathlib.Core.Path.{_≡_};
@@ -9,7 +10,7 @@ ghost use Rattle.writing.specs.Space.{spaceRefusal, spaceAfter};
 ghost use Rattle.writing.specs.Encapsulation.{encapRefusal, encapAfter};
 ghost use Rattle.record.specs.Reading.{recordRefusal, fileRefusal};
 ghost use Rattle.record.specs.Writing.{writingRefusal, recordAfter};
-ghost use Rattle.branmuslin.specs.Lent.{packetAfter, spaceOctetsAfter, encapOctetsAfter, recordNumbersAfter, recordsAfter, indexAfter};
+ghost use Rattle.branmuslin.specs.Lent.{packetAfter, spaceWrittenAfter, encapWrittenAfter, recordNumbersAfter, recordsAfter, indexAfter};
 use numbers::encapsulation_numbers;
 use numbers::space_numbers;
 use packet::Packet;
@@ -66,7 +67,7 @@ pub extern "C" fn branmuslin_write_space(
 ) -> u8
     ensures { λ r. ⌜ r ≡ spaceRefusal kind secondary apid flags count (length (now (field .entry))) (length (now (out .entry))) ⌝ }
     ensures { λ _. ⌜ now (out .exit) ≡ spaceAfter kind secondary apid flags count (now (field .entry)) (now (out .entry)) ⌝ }
-    ensures { λ _. ⌜ now (written .exit) ≡ spaceOctetsAfter kind secondary apid flags count (now (field .entry)) (now (out .entry)) (now (written .entry)) ⌝ }
+    ensures { λ _. ⌜ now (written .exit) ≡ spaceWrittenAfter kind secondary apid flags count (now (field .entry)) (now (out .entry)) (now (written .entry)) ⌝ }
 {
     let w = writing::write_space(kind, secondary, apid, flags, count, field, out);
     match w {
@@ -90,7 +91,7 @@ pub extern "C" fn branmuslin_write_encapsulation(
 ) -> u8
     ensures { λ r. ⌜ r ≡ encapRefusal protocol user extension (length (now (content .entry))) (length (now (out .entry))) ⌝ }
     ensures { λ _. ⌜ now (out .exit) ≡ encapAfter protocol user extension (now (content .entry)) (now (out .entry)) ⌝ }
-    ensures { λ _. ⌜ now (written .exit) ≡ encapOctetsAfter protocol user extension (now (content .entry)) (now (out .entry)) (now (written .entry)) ⌝ }
+    ensures { λ _. ⌜ now (written .exit) ≡ encapWrittenAfter protocol user extension (now (content .entry)) (now (out .entry)) (now (written .entry)) ⌝ }
 {
     let w = writing::write_encapsulation(protocol, user, extension, content, out);
     match w {

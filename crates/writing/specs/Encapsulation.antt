@@ -26,8 +26,8 @@ shortest p u n =
 abbrev pub firstOctet : ℕ → ℕ → ℕ
 firstOctet p l = 7 * 32 + p * 4 + l
 
--- a header of h octets for a packet of size octets: 1, 2, 4 or 8 for a length of length of 0, 1, 2, 3. Octet 1 is the user field and the
--- extension, octets 2 and 3 the CCSDS field; the last 1, 2 or 4 octets are the packet length
+-- a header of h octets for a packet of size octets: 1, 2, 4 or 8 for a length of length of 0, 1, 2, 3. With 4 or 8, octet 1 is the user
+-- field and the extension; with 8, octets 2 and 3 are the CCSDS field; the last 1, 2 or 4 octets of a header of 2, 4 or 8 are the length
 unfoldable pub headerOctets : ℕ → ℕ → ℕ → ℕ → ℕ → List ℕ
 headerOctets h p u x size =
     cond (eqb h 1) (firstOctet p 0 ∷ [])
