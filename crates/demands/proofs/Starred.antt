@@ -2,8 +2,21 @@
 use mathlib.Core.Path.{_≡_, refl}
 use mathlib.Core.List.{map}
 use Rattle.packet.specs.Reading.{header, size, readingTests, refusal, fields, reading, content}
+use Rattle.record.specs.Record.{possible}
+use Rattle.pool.specs.Blocks.{blocksFor, find}
+use Rattle.pool.specs.Matching.{found, holds, eachHolds, count, sum, matching}
+use Rattle.pool.specs.Matching as matching
+use Rattle.lane.specs.Lane.{one, need, illegal, talliesPossible, fine}
+use Rattle.lane.specs.Packets.{fault}
+use Rattle.lane.specs.Grouping.{repeats, missingBefore, breaks, givesUp, goesOn, joined}
+use Rattle.lane.specs.Plans.{unitPlan, groupingPlan, acceptedPlan, packetPlan}
+use Rattle.lane.specs.Steps.{laneAfter}
+use Rattle.intake.specs.State.{freshState, total, others, every, sound, unsound}
+use Rattle.intake.specs.Calls.{openingRefusal, settle, packetStep}
+use Rattle.intake.specs.After.{opening, taking, releasedFrom, marksAfter}
+use Rattle.demands.specs.Runs.{after, run}
 use Rattle.demands.specs.Starred.{given, starred}
 
 pub as-the-paper-says : map given starred ≡ starred
-unfolding header size readingTests refusal fields reading content
+unfolding header size readingTests refusal fields reading content possible blocksFor find found holds eachHolds count sum matching matching.one one need illegal talliesPossible fine fault repeats missingBefore breaks givesUp goesOn joined unitPlan groupingPlan acceptedPlan packetPlan laneAfter freshState total others every sound unsound openingRefusal settle packetStep opening taking releasedFrom marksAfter after run
 as-the-paper-says = refl

@@ -4,6 +4,7 @@
 //! the data. So that these too can be compared on any octets, an input given
 //! here is one more case.
 
+mod lanes;
 mod records;
 mod writing;
 
@@ -64,7 +65,7 @@ fn fixed_cases() -> String {
     let reading = READING.iter().map(|case| reading_case(&hex::octets(case)));
     let listing = LISTING.iter().map(|case| listing_case(&hex::octets(case)));
     let lines: String = reading.chain(listing).collect();
-    lines + &writing::cases() + &records::cases()
+    lines + &writing::cases() + &records::cases() + &lanes::cases()
 }
 
 /// The front of the input as a reading case, and where a walk over it ends.
@@ -152,6 +153,10 @@ mod tests {
         assert_eq!(starting("write encap "), 6 + 15);
         assert_eq!(starting("write space "), 16);
         assert_eq!(starting("write record "), 16);
+        assert_eq!(starting("run "), 4);
+        assert_eq!(starting("full lane: "), 4);
+        assert_eq!(starting("unsound "), 18);
+        assert_eq!(starting("pool of "), 3);
         assert_eq!(starting("walk"), 0);
     }
 

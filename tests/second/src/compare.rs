@@ -35,7 +35,7 @@ fn compare(program: &[OsString], inputs: &Inputs, expect: fn(&[u8]) -> String) -
 
 /// What the program writes for this input. A program that ends badly has not
 /// answered, whatever it wrote.
-fn answer(program: &[OsString], input: &[u8]) -> Result<Vec<u8>, String> {
+pub fn answer(program: &[OsString], input: &[u8]) -> Result<Vec<u8>, String> {
     let fault = |error: io::Error| format!("the program can't be run: {error}");
     let mut child = Command::new(&program[0])
         .args(&program[1..])
@@ -62,12 +62,12 @@ fn answer(program: &[OsString], input: &[u8]) -> Result<Vec<u8>, String> {
     }
 }
 
-fn about_input(input: &[u8]) -> String {
+pub fn about_input(input: &[u8]) -> String {
     format!("input {}\n", hex::cut(input))
 }
 
 /// Both texts around the first line in which they differ.
-fn difference(expected: &[u8], came: &[u8]) -> String {
+pub fn difference(expected: &[u8], came: &[u8]) -> String {
     let expected: Vec<&[u8]> = expected.split_inclusive(|octet| *octet == b'\n').collect();
     let came: Vec<&[u8]> = came.split_inclusive(|octet| *octet == b'\n').collect();
     let same = alike(&expected, &came);

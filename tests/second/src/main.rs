@@ -1,35 +1,41 @@
-//! The program `second`: lists, prints the cases, and compares another
-//! program's listings and cases with its own.
+//! The program `second`: lists, replays, prints the cases, and compares another
+//! program's listings, replays and cases with its own.
 //!
 //! - `second list` lists standard input;
-//! - `second cases` prints the fixed cases (reading, listing, writing, records)
-//!   with their answers, then those about standard input;
-//! - `second compare PROGRAM` and `second compare-cases PROGRAM` run a program
-//!   that should print what `list` or `cases` does, on thousands of inputs.
+//! - `second replay` replays the run file on standard input;
+//! - `second cases` prints the fixed cases (reading, listing, writing, records,
+//!   lanes) with their answers, then those about standard input;
+//! - `second compare PROGRAM`, `second compare-replay PROGRAM` and
+//!   `second compare-cases PROGRAM` run a program that should print what `list`,
+//!   `replay` or `cases` does, on thousands of inputs.
 //!
 //! Beside it, the program `calls` compares the C library's functions by calling
 //! them.
 
 use second::compare::{self, Comparison};
+use second::compare_replay::compare_replays;
 use second::ending::ending;
-use second::{cases, lister};
+use second::{cases, lister, replay};
 use std::env;
 use std::ffi::OsString;
 use std::io::{self, Read};
 use std::process::ExitCode;
 
-const USAGE: &str = "usage: second list | second cases | \
-    second compare PROGRAM [ARGUMENT...] | second compare-cases PROGRAM [ARGUMENT...]";
+const USAGE: &str = "usage: second list | second replay | second cases | \
+    second compare PROGRAM [ARGUMENT...] | second compare-replay PROGRAM [ARGUMENT...] | \
+    second compare-cases PROGRAM [ARGUMENT...]";
 
 fn main() -> ExitCode {
     let words: Vec<OsString> = env::args_os().skip(1).collect();
     let command = words.first().and_then(|word| word.to_str());
     match (command, words.len()) {
-        (Some("list"), 1) => ending(answer(lister::listing)),
-        (Some("cases"), 1) => ending(answer(cases::text)),
+        (Some("list"), 1) => ending(answer(lister::listing, lister::LONGEST_INPUT)),
+        (Some("replay"), 1) => ending(answer(replay::text, replay::LONGEST_RUN)),
+        (Some("cases"), 1) => ending(answer(cases::text, cases::LONGEST_CASE)),
         (Some("compare"), 2..) => {
             ending(compared(compare::compare_listings(&words[1..]), "listed"))
         }
+        (Some("compare-replay"), 2..) => ending(compare_replays(&words[1..])),
         (Some("compare-cases"), 2..) => {
             ending(compared(compare::compare_cases(&words[1..]), "read"))
         }
@@ -40,18 +46,18 @@ fn main() -> ExitCode {
     }
 }
 
-fn answer(text: fn(&[u8]) -> String) -> Result<String, String> {
-    let octets = input().map_err(|error| format!("second: {error}"))?;
+fn answer(text: fn(&[u8]) -> String, longest: usize) -> Result<String, String> {
+    let octets = input(longest).map_err(|error| format!("second: {error}"))?;
     Ok(text(&octets))
 }
 
-/// Standard input, kept only as far as is needed to see that it is too long to
-/// be listed; the cases look at less of it.
+/// Standard input, kept only as far as is needed to see that it is longer than
+/// the longest that counts.
 /// The rest is read all the same, so that the sender never meets a closed pipe.
-fn input() -> io::Result<Vec<u8>> {
+fn input(longest: usize) -> io::Result<Vec<u8>> {
     let mut stdin = io::stdin().lock();
     let mut octets = Vec::new();
-    let enough = lister::LONGEST_INPUT as u64 + 1;
+    let enough = longest as u64 + 1;
     stdin.by_ref().take(enough).read_to_end(&mut octets)?;
     io::copy(&mut stdin, &mut io::sink())?;
     Ok(octets)

@@ -1,0 +1,114 @@
+-- Every call leaves a sound state sound, and every state its shape: a call that is refused leaves all as it was, and one that isn't passed the tests
+-- that the new lane needs. So every state that a run from the fresh start reaches is sound.
+use Prim.Native.Nat.{ℕ, _+_, _≤_, _<_}
+use mathlib.Core.Path.{_≡_, refl, _∙_}
+use mathlib.Core.Bool.{true, false, not}
+use mathlib.Core.List.{List, [], _∷_}
+use native.Mathlib.Omega.{arith}
+use borrow.Author.Tests.{ltb-false, not-false}
+use lib.Dec.{ltb}
+use lib.ListN.{length-set}
+use Rattle.lane.specs.declared.Settings.{Settings}
+use Rattle.lane.specs.Lane.{one, closed, illegal, fine}
+use Rattle.lane.proofs.Fine.{Legal, is-legal, is-fine, fine-is}
+use Rattle.lane.proofs.Accepted.{passes}
+use Rattle.lane.proofs.Planned.{none-held}
+use Rattle.intake.specs.declared.State.{State}
+use Rattle.intake.specs.State.{freshState, laneAt, total, unsound}
+use Rattle.intake.specs.Calls.{openingRefusal, closingRefusal, packetStep}
+use Rattle.intake.specs.After.{openedWith, releasedFrom, opening, closing, taking}
+use Rattle.intake.proofs.Soundness.{closed-fine}
+use Rattle.demands.specs.Runs.{Shaped, Call, opens, takes, closes, after, run}
+use Rattle.demands.proofs.Lanes.{need-closed, total-at}
+use Rattle.demands.proofs.Sound.{Sound, fresh, lane-fine, opened-small, room-now, need-open, unless}
+use Rattle.demands.proofs.Marks.{released-length, marks-length, emptied}
+use Rattle.demands.proofs.Steps.{stepped, after-step}
+
+-- ---- every state keeps its shape
+module _ (s : State) (shape : Shaped s) (i : ℕ) where
+  opening-shaped : (settings : Settings) (octets : ℕ) → Shaped (opening s i settings octets .state)
+  unfolding opening
+  opening-shaped settings octets = unless Shaped (openingRefusal s i settings octets) shape (λ e. (length-set (s .lanes) i _ ∙ shape .0, shape .1))
+
+  closing-shaped : (octets room : ℕ) → Shaped (closing s i octets room .state)
+  unfolding closing
+  closing-shaped octets room =
+      unless Shaped (closingRefusal s i octets room) shape (λ e. (length-set (s .lanes) i _ ∙ shape .0, released-length (s .marks) i (laneAt s i) ∙ shape .1))
+
+  taking-shaped : (p : List ℕ) (octets room : ℕ) → Shaped (taking s i p octets room .state)
+  unfolding taking
+  taking-shaped p octets room = (length-set (s .lanes) i _ ∙ shape .0, marks-length (s .marks) i (laneAt s i) (packetStep s i p octets room) ∙ shape .1)
+
+pub after-shaped : (s : State) → Shaped s → (c : Call) → Shaped (after s c)
+unfolding after
+after-shaped s shape (opens i settings octets) = opening-shaped s shape i settings octets
+after-shaped s shape (takes i p octets room) = taking-shaped s shape i p octets room
+after-shaped s shape (closes i octets room) = closing-shaped s shape i octets room
+
+-- ---- a sound state stays sound
+opened-fine : (settings : Settings) → illegal settings ≡ false → fine (openedWith settings) ≡ true
+unfolding one
+opened-fine settings e =
+    let legal : Legal settings = is-legal settings e in
+    fine-is (openedWith settings) (record {
+      legal = λ o. legal;
+      within = omega (arith, none-held);
+      nothing = λ o. refl;
+      shut = λ o. refl;
+      last = omega arith;
+      tallies = record { apid = legal .apid; packets = omega arith; units = omega arith; missing = omega arith };
+    })
+
+module _ (s : State) (k : Sound s) (i : ℕ) where
+  module _ (settings : Settings) (octets : ℕ) where
+    opened : openingRefusal s i settings octets ≡ 0 → (i < 8) × (laneAt s i .opened ≡ false) × (illegal settings ≡ false) × (settings .share + total (s .lanes) ≤ 64)
+    unfolding openingRefusal
+    opened e =
+        let a = passes (unsound s octets) 24 _ (λ t. omega arith) e in
+        let b = passes (ltb 7 i) 11 _ (λ t. omega arith) (a .1) in
+        let c = passes (laneAt s i .opened) 21 _ (λ t. omega arith) (b .1) in
+        let d = passes (illegal settings) 22 _ (λ t. omega arith) (c .1) in
+        let f = passes (ltb 64 (settings .share + total (s .lanes))) 23 0 (λ t. omega arith) (d .1) in
+        (omega (arith, ltb-false 7 i (b .0)), c .0, d .0, ltb-false _ _ (f .0))
+
+    pub opening-sound : Sound (opening s i settings octets .state)
+    unfolding opening releasedFrom
+    opening-sound =
+        unless Sound (openingRefusal s i settings octets) k (λ e.
+        let o = opened e in
+        let shut : laneAt s i .grouped ≡ false = is-fine (laneAt s i) (lane-fine s k i) .shut (o .1) in
+        simp shut at (emptied s k i (o .0) (openedWith settings) (opened-fine settings (o .2))
+        (omega (arith, need-open (openedWith settings) refl, none-held, total-at (s .lanes) i (omega (arith, k .shape .0, o .0)), o .3)) refl))
+
+  pub closed-small : (octets room : ℕ) → closingRefusal s i octets room ≡ 0 → i < 8
+  unfolding closingRefusal
+  closed-small octets room e =
+      let a = passes (unsound s octets) 24 _ (λ t. omega arith) e in
+      let b = passes (not (laneAt s i .opened)) 11 _ (λ t. omega arith) (a .1) in
+      opened-small s k i (not-false _ (b .0))
+
+  pub closing-sound : (octets room : ℕ) → Sound (closing s i octets room .state)
+  unfolding closing
+  closing-sound octets room =
+      unless Sound (closingRefusal s i octets room) k (λ e.
+      let h : i < 8 = closed-small octets room e in
+      emptied s k i h closed closed-fine (omega (arith, need-closed, room-now s k i h)) refl)
+
+  pub taking-sound : (p : List ℕ) (octets room : ℕ) → Sound (taking s i p octets room .state)
+  unfolding taking
+  taking-sound p octets room = after-step s k i p octets (stepped s k i p octets room)
+
+pub after-sound : (s : State) → Sound s → (c : Call) → Sound (after s c)
+unfolding after
+after-sound s k (opens i settings octets) = opening-sound s k i settings octets
+after-sound s k (takes i p octets room) = taking-sound s k i p octets room
+after-sound s k (closes i octets room) = closing-sound s k i octets room
+
+-- ---- runs from the fresh start
+run-sound : (s : State) → Sound s → (cs : List Call) → Sound (run s cs)
+unfolding run
+run-sound s k [] = k
+run-sound s k (c ∷ cs) = run-sound (after s c) (after-sound s k c) cs
+
+pub reached : (cs : List Call) → Sound (run freshState cs)
+reached cs = run-sound freshState fresh cs

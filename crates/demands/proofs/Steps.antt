@@ -1,0 +1,109 @@
+-- What a packet's step obeys in a sound state: what its plan does, and that there is room for the lane beside the others. So the state after it is
+-- sound.
+use Prim.Native.Nat.{ℕ, _+_, _≤_, _<_, max}
+use mathlib.Core.Path.{_≡_, refl, ap, _∙_}
+use mathlib.Core.Bool.{Bool, true, false, cond}
+use mathlib.Core.List.{List, map}
+use native.Mathlib.Omega.{arith}
+use borrow.Author.Tests.{leb-true}
+use lib.Dec.{leb}
+use lib.ListN.{length, set}
+use lib.Seq.{set-getD}
+use Rattle.pool.specs.Blocks.{blocksFor}
+use Rattle.pool.specs.Matching.{sum}
+use Rattle.lane.specs.declared.Lane.{Lane}
+use Rattle.lane.specs.declared.Added.{Added}
+use Rattle.lane.specs.declared.Step.{Step}
+use Rattle.lane.specs.declared.Step.the-variants.{Refuse, Repeat, Stray, Hold, Unit}
+use Rattle.lane.specs.declared.Plan.{Plan}
+use Rattle.lane.specs.Lane.{held, need, fine}
+use Rattle.lane.specs.Steps.{laneAfter}
+use Rattle.lane.proofs.Accepted.{accepted-data}
+use Rattle.lane.proofs.Planned.{of-either, ToHold, Planned, planned, none-held, held-most}
+use Rattle.lane.proofs.Planned as plan
+use Rattle.intake.specs.declared.State.{State}
+use Rattle.intake.specs.State.{laneAt, others, unsound}
+use Rattle.intake.specs.Calls.{settle, packetStep}
+use Rattle.intake.specs.After.{withLane, marksAfter, userOf, answered}
+use Rattle.demands.proofs.Lanes.{fine-set, total-set, held-set, held-within}
+use Rattle.demands.proofs.Sound.{Sound, lane-fine, opened-small, room-now, changed, need-open}
+use Rattle.demands.proofs.Marks.{blocksKept, grown-length, emptied, grown-matching}
+
+-- the lane is one of eight, and after the step d it is fine and there is room for it
+pub record Fits (s : State) (i : ℕ) (d : Step) : Type 0 where
+  pub small : i < 8
+  pub good : fine (laneAfter (laneAt s i) d) ≡ true
+  pub room : need (laneAfter (laneAt s i) d) + others (s .lanes) i ≤ 64
+
+pub data Stepped (s : State) (i : ℕ) (p : List ℕ) (octets : ℕ) : Step → Type 0 where
+  refuses : (k : ℕ) → (k ≡ 24 → unsound s octets ≡ true) → (k ≡ 19 → ToHold (laneAt s i) p) → Stepped s i p octets (Refuse k)
+  repeats : Stepped s i p octets Repeat
+  strays : (a : Added) → Fits s i (Stray a) → Stepped s i p octets (Stray a)
+  ends : (a : Added) (on : Bool) (n : ℕ) → Fits s i (Unit a on n) → Stepped s i p octets (Unit a on n)
+  holds : (a : Added) (on : Bool) (n : ℕ) → Fits s i (Hold a on n) → n ≡ cond on (laneAt s i .octets) 0 + length (userOf s i p) → Stepped s i p octets (Hold a on n)
+
+module _ (s : State) (k : Sound s) (i : ℕ) (p : List ℕ) (octets room : ℕ) where
+  abbrev own : Lane
+  own = laneAt s i
+
+  -- a lane that holds nothing has room, since it had room before
+  room-empty : (l : Lane) → own .opened ≡ true → l .opened ≡ true → l .octets ≡ 0 → l .settings .share ≡ own .settings .share → need l + others (s .lanes) i ≤ 64
+  room-empty l o on none share =
+      omega (arith, need-open own o, need-open l on, room-now s k i (opened-small s k i o), ap blocksFor none ∙ none-held)
+
+  settled : {d : Plan} → Planned own p room d → Stepped s i p octets (settle (others (s .lanes) i) d)
+  unfolding settle laneAfter
+  settled (plan.refuses n few h) = refuses n (λ e. absurd (omega arith)) h
+  settled plan.repeats = repeats
+  settled (plan.strays a o f g) = strays a (record { small = opened-small s k i o; good = g; room = room-empty (laneAfter own (Stray a)) o o refl refl })
+  settled (plan.ends a on n o f g e h) = ends a on n (record { small = opened-small s k i o; good = g; room = room-empty (laneAfter own (Unit a on n)) o o refl refl })
+  settled (plan.holds a on n o f g e h t) =
+      of-either (Stepped s i p octets) (leb (max (blocksFor n) (own .settings .share) + others (s .lanes) i) 64)
+      (λ r. holds a on n (record { small = opened-small s k i o; good = g; room = omega (arith, need-open (laneAfter own (Hold a on n)) o, leb-true (max (blocksFor n) (own .settings .share) + others (s .lanes) i) 64 r) })
+      (omega (arith, accepted-data (own .settings) p f .1)))
+      (λ r. refuses 19 (λ z. absurd (omega arith)) (λ z. t))
+
+  pub stepped : Stepped s i p octets (packetStep s i p octets room)
+  unfolding packetStep
+  stepped =
+      of-either (Stepped s i p octets) (unsound s octets) (λ e. refuses 24 (λ z. e) (λ z. absurd (omega arith)))
+      (λ e. settled (planned own p room (lane-fine s k i)))
+
+-- a refusal that was given has its reason
+pub refused-why : (s : State) (i : ℕ) (p : List ℕ) (octets n : ℕ) → Stepped s i p octets (Refuse n) → (n ≡ 24 → unsound s octets ≡ true) × (n ≡ 19 → ToHold (laneAt s i) p)
+refused-why s i p octets n (refuses m h t) = (h, t)
+
+-- ---- the state after a step
+module _ (s : State) (k : Sound s) (i : ℕ) where
+  stays : Sound (withLane s i (laneAt s i) (s .marks))
+  stays = rw (set-getD (s .lanes) i) k
+
+  module _ (d : Step) (f : Fits s i d) where
+    abbrev next : Lane
+    next = laneAfter (laneAt s i) d
+
+    -- what all lanes hold then is within the pool
+    sum-after : sum (set (map held (s .lanes)) i (held next)) ≤ 64
+    sum-after =
+        rw (← held-set (s .lanes) i next)
+        (omega (arith, held-within (set (s .lanes) i next) (fine-set (s .lanes) (k .lanes) i next (f .good)), total-set (s .lanes) i next (omega (arith, k .shape .0, f .small)), f .room))
+
+  pub group-grows : (a : Added) (on : Bool) (n u : ℕ) → Fits s i (Hold a on n) → n ≡ cond on (laneAt s i .octets) 0 + u
+      → (blocksKept (s .marks) i (laneAt s i) on ≤ blocksFor n) × (blocksFor n ≤ 64)
+  unfolding laneAfter blocksFor
+  group-grows a on n u f e = (more on e, held-most (laneAfter (laneAt s i) (Hold a on n)) (f .good) .0)
+    where
+      more : (on : Bool) → n ≡ cond on (laneAt s i .octets) 0 + u → blocksKept (s .marks) i (laneAt s i) on ≤ blocksFor n
+      more true e = omega arith
+      more false e = omega arith
+
+  pub after-step : (p : List ℕ) (octets : ℕ) {d : Step} → Stepped s i p octets d → Sound (answered s i d .state)
+  unfolding laneAfter marksAfter
+  after-step p octets (refuses n h t) = stays
+  after-step p octets repeats = stays
+  after-step p octets (strays a f) = emptied s k i (f .small) (laneAfter (laneAt s i) (Stray a)) (f .good) (f .room) refl
+  after-step p octets (ends a on n f) = emptied s k i (f .small) (laneAfter (laneAt s i) (Unit a on n)) (f .good) (f .room) refl
+  after-step p octets (holds a on n f e) =
+      let g = group-grows a on n (length (userOf s i p)) f e in
+      changed s k i (f .small) (laneAfter (laneAt s i) (Hold a on n)) _ (f .good) (f .room) (grown-length (s .marks) i (laneAt s i) on n ∙ k .shape .1)
+      (grown-matching s k i (f .small) on n (g .0) (g .1) (sum-after (Hold a on n) f))

@@ -1,0 +1,15 @@
+-- A lane's group as the octets that the pool has of it.
+use Prim.Native.Nat.{ℕ}
+use mathlib.Core.Path.{_≡_}
+use mathlib.Core.List.{List}
+use Rattle.pool.specs.Octets.{gathered}
+use Rattle.intake.specs.declared.State.{State}
+use Rattle.intake.specs.State.{laneAt}
+
+abbrev pub groupIn : State → List ℕ → ℕ → List ℕ
+groupIn s pool j = gathered (s .marks) j pool 0 (laneAt s j .octets)
+
+-- the later state and pool have lane j and its group as they were
+pub record Leaves (j : ℕ) (s : State) (pool : List ℕ) (later : State) (laterPool : List ℕ) : Type 0 where
+  pub lane : laneAt later j ≡ laneAt s j
+  pub group : groupIn later laterPool j ≡ groupIn s pool j

@@ -1,0 +1,78 @@
+-- What a step leaves, as the code meets it.
+use Prim.Native.Nat.{ℕ, _+_, _≤_, _<_}
+use mathlib.Core.Path.{_≡_, refl, sym, ap, _∙_}
+use mathlib.Core.Bool.{Bool, true, false, cond}
+use mathlib.Core.List.{List, [], _∷_, _++_}
+use native.Mathlib.Omega.{arith}
+use lib.ListN.{length, length-append}
+use Rattle.octets.specs.Output.{put, putIfFits}
+use Rattle.octets.proofs.Puts.{nothing, then-put}
+use Rattle.pool.specs.Blocks.{poolOctets}
+use Rattle.pool.specs.Octets.{storedIfFits, gatheredIfFits}
+use Rattle.pool.proofs.Guards.{is-stored, is-gathered}
+use Rattle.pool.proofs.InBlocks.{gathered-at-most}
+use Rattle.lane.specs.declared.Lane.{Lane}
+use Rattle.lane.specs.declared.Added.{Added}
+use Rattle.lane.specs.declared.Step.the-variants as step
+use Rattle.lane.specs.Lane.{fine}
+use Rattle.lane.specs.Steps.{counted, laneAfter}
+use Rattle.intake.specs.declared.State.{State}
+use Rattle.intake.specs.declared.Answer.the-variants as answer
+use Rattle.intake.specs.State.{laneAt}
+use Rattle.intake.specs.After.{releasedFrom, withLane, grown, groupOf, marksAfter, poolAfter, outAfter, answered}
+use Rattle.intake.specs.Ready.{Holds, Ends}
+
+module _ (marks : List ℕ) (i : ℕ) (l : Lane) (on : Bool) (pool out : List ℕ) where
+  -- the group that goes on is gathered
+  pub group-gathered : on ≡ true → cond on (l .octets) 0 ≤ length out → l .octets ≤ poolOctets → gatheredIfFits marks i pool (l .octets) (length out) ≡ groupOf marks i l on pool
+  unfolding groupOf
+  group-gathered e h k = simp e (sym (is-gathered marks i pool (l .octets) out (simp e at h) k))
+
+  -- and of none there is nothing to put
+  pub no-group : on ≡ false → (0 ≡ length (groupOf marks i l on pool)) × (out ≡ put out 0 (groupOf marks i l on pool))
+  unfolding groupOf
+  no-group e = simp e (refl, nothing out 0 .1)
+
+-- it has no more octets than the lane says
+group-most : (marks : List ℕ) (i : ℕ) (l : Lane) (on : Bool) (pool : List ℕ) → length (groupOf marks i l on pool) ≤ cond on (l .octets) 0
+unfolding groupOf
+group-most marks i l true pool = gathered-at-most marks i pool 0 (l .octets)
+group-most marks i l false pool = omega arith
+
+-- ---- each step, from what its function worked out: the lane l, the marks m, the lane k after it and the state t
+module _ (s : State) (i : ℕ) (a : Added) (l : Lane) (el : l ≡ laneAt s i) where
+  pub fine-after : (units : ℕ) (grouped : Bool) (octets : ℕ) → fine (counted (laneAt s i) a units grouped octets) ≡ true → fine (counted l a units grouped octets) ≡ true
+  fine-after units grouped octets h = rw el h
+
+  pub strayed : (m : List ℕ) → m ≡ releasedFrom (s .marks) i l → (k : Lane) → k ≡ counted l a 0 false 0 → (t : State) → t ≡ withLane s i k m
+      → record { answer = answer.Stray (a .missing) (a .broke); state = t } ≡ answered s i (step.Stray a)
+  unfolding laneAfter marksAfter
+  strayed m em k ek t et = rw (et, ek, em, el)
+
+  module _ (on : Bool) (n : ℕ) where
+    pub held-state : (m : List ℕ) → m ≡ grown (s .marks) i l on n → (k : Lane) → k ≡ counted l a 0 true n → (t : State) → t ≡ withLane s i k m
+        → record { answer = answer.Held (a .missing) (a .broke); state = t } ≡ answered s i (step.Hold a on n)
+    unfolding laneAfter marksAfter
+    held-state m em k ek t et = rw (et, ek, em, el)
+
+    pub held-pool : (u pool : List ℕ) → Holds i (laneAt s i) a on n (length u) (length pool) → (m : List ℕ) → m ≡ grown (s .marks) i l on n → (b : ℕ) → b ≡ cond on (l .octets) 0
+        → (after : List ℕ) → after ≡ storedIfFits m i pool b u → after ≡ poolAfter (s .marks) i (laneAt s i) (step.Hold a on n) u pool
+    unfolding poolAfter
+    held-pool u pool (c, size, most, few, p) m em b eb after e =
+        e ∙ sym (is-stored m i pool b u p (omega (arith, size, most, eb ∙ ap (λ (x : Lane). cond on (x .octets) 0) el))) ∙ rw (em, eb, el)
+
+    pub unit-state : (m : List ℕ) → m ≡ releasedFrom (s .marks) i l → (k : Lane) → k ≡ counted l a 1 false 0 → (t : State) → t ≡ withLane s i k m
+        → record { answer = answer.Unit n (a .missing) (a .broke); state = t } ≡ answered s i (step.Unit a on n)
+    unfolding laneAfter marksAfter
+    unit-state m em k ek t et = rw (et, ek, em, el)
+
+    pub unit-out : (u pool out : List ℕ) → Ends i (laneAt s i) a on n (length u) (length out) → (at : ℕ) → at ≡ length (groupOf (s .marks) i l on pool)
+        → (mid : List ℕ) → mid ≡ put out 0 (groupOf (s .marks) i l on pool) → (after : List ℕ) → after ≡ putIfFits mid at u
+        → after ≡ outAfter (s .marks) i (laneAt s i) (step.Unit a on n) u pool out
+    unfolding outAfter
+    unit-out u pool out (c, size, room, few) at ea mid em after e =
+        let g = groupOf (s .marks) i l on pool in
+        let most : length g ≤ cond on (l .octets) 0 = group-most (s .marks) i l on pool in
+        let fits : 0 + length (g ++ u) ≤ length out = omega (arith, length-append g u, most, size, room, ap (λ (x : Lane). cond on (x .octets) 0) el) in
+        let w = then-put out 0 g u fits {out = mid} {out′ = after} {to = at} {to′ = at + length u} refl (omega (arith, ea), em) e in
+        rw (← el) (w .1)

@@ -1,0 +1,11 @@
+use Rattle.intake.specs.State.{freshState}
+use borrow.Author.Needs.{needs}
+use Rattle.intake.proofs.fresh_start.Statement.{statement}
+use Rattle.intake.proofs.fresh_start.Tie as tie
+
+returns : tie.Need-returns
+unfolding freshState
+returns c = search needs
+
+pub fresh-start-spec : {M : Type 1} → statement M
+fresh-start-spec = tie.close (tie.spec returns)

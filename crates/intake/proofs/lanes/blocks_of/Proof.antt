@@ -1,0 +1,12 @@
+use native.Mathlib.Omega.{arith}
+use Rattle.pool.specs.Blocks.{blocksFor}
+use borrow.Author.Needs.{needs}
+use Rattle.intake.proofs.lanes.blocks_of.Statement.{statement}
+use Rattle.intake.proofs.lanes.blocks_of.Tie as tie
+
+cast-result : tie.Need-cast-result
+unfolding blocksFor
+cast-result c = omega (arith, c .blocks-for .ensures, c .before .fits)
+
+pub blocks-of-spec : {M : Type 1} → statement M
+blocks-of-spec = tie.close (tie.spec (λ c κs. search needs) cast-result (λ c. search needs))

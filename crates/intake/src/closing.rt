@@ -1,0 +1,43 @@
+// A group that ends, and a lane's credit.
+ghost use mathlib.Core.Path.{_≡_};
+ghost use mathlib.Core.Bool.{true};
+ghost use Prim.Native.Nat.{_<_};
+ghost use Rattle.lane.specs.Lane.{one, fine};
+ghost use Rattle.intake.specs.After.{creditOf, releasedFrom};
+use lane::Lane;
+use pool::free_blocks;
+use record::Record;
+
+// 1 for an open group.
+pub(crate) fn one_if(b: bool) -> u32
+    ensures { λ r. ⌜ r ≡ one b ⌝ }
+{
+    if b { 1 } else { 0 }
+}
+
+// What the lane's station is credited with, an open group counted as broken.
+pub(crate) fn credit_of(l: Lane) -> Record
+    requires { ⌜ fine l ≡ true ⌝ }
+    ensures { λ r. ⌜ r ≡ creditOf l ⌝ }
+{
+    Record {
+        station: l.settings.station,
+        apid: l.settings.apid,
+        units: l.units,
+        packets: l.packets,
+        missing: l.missing,
+        broken: l.broken + one_if(l.grouped),
+    }
+}
+
+// The marks without those of the lane's group, if it has one.
+pub(crate) fn released(marks: [u16; 64], lane: usize, l: Lane) -> [u16; 64]
+    requires { ⌜ lane < 8 ⌝ }
+    ensures { λ r. ⌜ r ≡ releasedFrom marks lane l ⌝ }
+{
+    if l.grouped {
+        free_blocks(marks, lane as u8)
+    } else {
+        marks
+    }
+}

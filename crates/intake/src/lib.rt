@@ -1,0 +1,197 @@
+// The intake: eight lanes that share one pool. State and pool are handed back as a call left them; a refusal leaves everything as it was.
+mod closing;
+mod lanes;
+mod taking;
+
+ghost use mathlib.Core.Path.{_≡_};
+ghost use lib.ListN.{length};
+ghost use Rattle.intake.specs.State.{freshState, sound, unsound};
+ghost use Rattle.intake.specs.After.{refusedChange, opening, closing, closingOut, taking, takingPool, takingOut};
+use closing::credit_of;
+use closing::released;
+use lane::CLOSED;
+use lane::Lane;
+use lane::Settings;
+use lane::is_illegal;
+use lane::plan_packet;
+use lanes::are_fine;
+use lanes::held_by;
+use lanes::lane_at;
+use lanes::opened_with;
+use lanes::total_of;
+use lanes::with_lane;
+use pool::POOL_OCTETS;
+use pool::marks_match;
+use record::RecordWritten;
+use record::write_record;
+use taking::carry_out;
+use taking::settled;
+use taking::user_part;
+
+// The most blocks that the lanes hold or are promised.
+const MOST: usize = 64;
+
+// marks says of each block whose it is: 512 if it is free, else lane x 64 + place.
+pub struct State {
+    pub lanes: [Lane; 8],
+    pub marks: [u16; 64],
+}
+
+// What a packet is answered: packets missing before it, and whether a group was given up. A unit's octets lie at the front of the output.
+pub enum Answer {
+    Refused(u8),
+    Repeat,
+    Stray {
+        missing: u16,
+        given_up: bool,
+    },
+    Held {
+        missing: u16,
+        given_up: bool,
+    },
+    Unit {
+        octets: usize,
+        missing: u16,
+        given_up: bool,
+    },
+}
+
+// What a packet gives.
+pub struct Answered {
+    pub answer: Answer,
+    pub state: State,
+}
+
+// What an opening or a closing gives: the refusal, or 0.
+pub struct Changed {
+    pub refusal: u8,
+    pub state: State,
+}
+
+// Eight closed lanes, and every block free.
+pub fn fresh_start() -> State
+    ensures { λ r. ⌜ r ≡ freshState ⌝ }
+{
+    State {
+        lanes: [CLOSED; 8],
+        marks: [512; 64],
+    }
+}
+
+// Whether the state is sound.
+pub fn is_sound(s: State) -> bool
+    ensures { λ r. ⌜ r ≡ sound s ⌝ }
+{
+    let lanes = s.lanes;
+    let marks = s.marks;
+    if are_fine(lanes) {
+        if total_of(lanes) <= MOST {
+            return marks_match(marks, held_by(lanes));
+        }
+    }
+    false
+}
+
+// Whether a call is refused by 24.
+fn is_unsound(s: State, octets: usize) -> bool
+    ensures { λ r. ⌜ r ≡ unsound s octets ⌝ }
+{
+    if octets == POOL_OCTETS {
+        !is_sound(s)
+    } else {
+        true
+    }
+}
+
+fn refused(s: State, number: u8) -> Changed
+    ensures { λ r. ⌜ r ≡ refusedChange s number ⌝ }
+{
+    Changed {
+        refusal: number,
+        state: s,
+    }
+}
+
+// Opens a lane.
+pub fn open_lane(s: State, lane: usize, settings: Settings, pool: &[u8]) -> Changed
+    ensures { λ r. ⌜ r ≡ opening s lane settings (length (now (pool .entry))) ⌝ }
+{
+    if is_unsound(s, pool.len()) {
+        return refused(s, 24);
+    }
+    if 7 < lane {
+        return refused(s, 11);
+    }
+    let lanes = s.lanes;
+    if lane_at(lanes, lane).opened {
+        return refused(s, 21);
+    }
+    if is_illegal(settings) {
+        return refused(s, 22);
+    }
+    if MOST < settings.share as usize + total_of(lanes) {
+        return refused(s, 23);
+    }
+    let marks = s.marks;
+    Changed {
+        refusal: 0,
+        state: with_lane(s, lane, opened_with(settings), marks),
+    }
+}
+
+// Gives a packet to a lane.
+pub fn take_packet(
+    s: State,
+    lane: usize,
+    octets: &[u8],
+    pool: &mut [u8],
+    out: &mut [u8],
+) -> Answered
+    ensures { λ r. ⌜ r ≡ taking s lane (now (octets .entry)) (length (now (pool .entry))) (length (now (out .entry))) ⌝ }
+    ensures { λ _. ⌜ now (pool .exit) ≡ takingPool s lane (now (octets .entry)) (length (now (out .entry))) (now (pool .entry)) ⌝ }
+    ensures { λ _. ⌜ now (out .exit) ≡ takingOut s lane (now (octets .entry)) (now (pool .entry)) (now (out .entry)) ⌝ }
+{
+    if is_unsound(s, pool.len()) {
+        return Answered {
+            answer: Answer::Refused(24),
+            state: s,
+        };
+    }
+    let lanes = s.lanes;
+    let l = lane_at(lanes, lane);
+    let step = settled(lanes, lane, plan_packet(l, octets, out.len()));
+    carry_out(
+        s,
+        lane,
+        step,
+        user_part(octets, l.settings.secondary),
+        pool,
+        out,
+    )
+}
+
+// Closes a lane and writes its credit record at the front of out.
+pub fn close_lane(s: State, lane: usize, pool: &[u8], out: &mut [u8]) -> Changed
+    ensures { λ r. ⌜ r ≡ closing s lane (length (now (pool .entry))) (length (now (out .entry))) ⌝ }
+    ensures { λ _. ⌜ now (out .exit) ≡ closingOut s lane (length (now (pool .entry))) (now (out .entry)) ⌝ }
+{
+    if is_unsound(s, pool.len()) {
+        return refused(s, 24);
+    }
+    let lanes = s.lanes;
+    let l = lane_at(lanes, lane);
+    if !l.opened {
+        return refused(s, 11);
+    }
+    match write_record(credit_of(l), out) {
+        RecordWritten::Refused(number) => refused(s, number),
+        RecordWritten::Octets(_) => {
+            let marks = s.marks;
+            let marks = released(marks, lane, l);
+            Changed {
+                refusal: 0,
+                state: with_lane(s, lane, CLOSED, marks),
+            }
+        }
+    }
+}

@@ -1,0 +1,256 @@
+// A packet's step: whether there is room for it, and what it does to state, pool and output.
+ghost use mathlib.Core.Path.{_≡_};
+ghost use mathlib.Core.Bool.{true, false, cond};
+ghost use Prim.Native.Nat.{_+_, _≤_, _<_};
+ghost use lib.ListN.{length, drop};
+ghost use lib.Dec.{leb};
+ghost use Rattle.octets.specs.Output.{put as puts};
+ghost use Rattle.pool.specs.Blocks.{poolOctets};
+ghost use Rattle.lane.specs.declared.Step.the-variants.{Stray, Hold, Unit};
+ghost use Rattle.lane.specs.Lane.{fine};
+ghost use Rattle.lane.specs.Steps.{counted};
+ghost use Rattle.intake.specs.State.{laneAt, others};
+ghost use Rattle.intake.specs.Calls.{settle};
+ghost use Rattle.intake.specs.After.{grown, groupOf, answered, poolAfter, outAfter};
+ghost use Rattle.intake.specs.Ready.{Counts, Holds, Ends, Ready};
+use crate::Answer;
+use crate::Answered;
+use crate::MOST;
+use crate::State;
+use crate::closing::one_if;
+use crate::closing::released;
+use crate::lanes::lane_at;
+use crate::lanes::total_of;
+use crate::lanes::with_lane;
+use crate::lanes::with_one;
+use lane::Added;
+use lane::CLOSED;
+use lane::Lane;
+use lane::Plan;
+use lane::Step;
+use octets::put_octets;
+use packet::SPACE_HEADER;
+use pool::blocks_for;
+use pool::gather_octets;
+use pool::grant_blocks;
+use pool::store_octets;
+
+// What the other lanes hold or are promised.
+fn others_of(lanes: [Lane; 8], i: usize) -> usize
+    ensures { λ r. ⌜ (r ≡ others lanes i) × (r ≤ 2048) ⌝ }
+{
+    total_of(with_one(lanes, i, CLOSED))
+}
+
+// The step that a plan comes to beside the other lanes.
+pub(crate) fn settled(lanes: [Lane; 8], i: usize, plan: Plan) -> Step
+    ensures { λ r. ⌜ r ≡ settle (others lanes i) plan ⌝ }
+{
+    match plan {
+        Plan::Sure(step) => step,
+        Plan::Ask {
+            blocks,
+            refusal,
+            step,
+        } => if is_room(blocks, others_of(lanes, i)) {
+            step
+        } else {
+            Step::Refuse(refusal)
+        },
+    }
+}
+
+// Whether so many blocks are at most 64 in all; the sum could overflow, and is not made.
+fn is_room(blocks: usize, others: usize) -> bool
+    ensures { λ r. ⌜ r ≡ leb (blocks + others) 64 ⌝ }
+{
+    if blocks <= MOST {
+        others <= MOST - blocks
+    } else {
+        false
+    }
+}
+
+// The user data of a packet that is not refused: what comes after its header and the secondary octets.
+pub(crate) fn user_part(octets: &[u8], secondary: u8) -> &[u8]
+    ensures { λ r. ⌜ now r ≡ drop (6 + secondary) (now (octets .entry)) ⌝ }
+{
+    let from = SPACE_HEADER + secondary as usize;
+    if from < octets.len() {
+        &octets[from..]
+    } else {
+        &octets[octets.len()..]
+    }
+}
+
+// The lane after a packet that is counted, with the group that it has then.
+fn count_in(l: Lane, a: Added, units: u32, grouped: bool, octets: u16) -> Lane
+    requires { ⌜ fine (counted l a units grouped octets) ≡ true ⌝ }
+    ensures { λ r. ⌜ r ≡ counted l a units grouped octets ⌝ }
+{
+    let settings = l.settings;
+    Lane {
+        opened: l.opened,
+        settings,
+        units: l.units + units,
+        packets: l.packets + 1,
+        missing: l.missing + a.missing as u32,
+        broken: l.broken + one_if(a.broke),
+        last: a.count,
+        grouped,
+        octets,
+    }
+}
+
+// The marks once the group has n octets.
+fn grow(marks: [u16; 64], lane: usize, l: Lane, joins: bool, n: usize) -> [u16; 64]
+    requires { ⌜ (lane < 8) × (n ≤ poolOctets) × (cond joins (l .octets) 0 ≤ n) ⌝ }
+    ensures { λ r. ⌜ r ≡ grown marks lane l joins n ⌝ }
+{
+    let need = blocks_for(n);
+    if joins {
+        let have = blocks_for(l.octets as usize);
+        return grant_blocks(marks, lane as u8, have as u8, (need - have) as u8);
+    }
+    grant_blocks(released(marks, lane, l), lane as u8, 0, need as u8)
+}
+
+// Where the user data begins in the group.
+fn start_of(octets: u16, joins: bool) -> usize
+    ensures { λ r. ⌜ r ≡ cond joins octets 0 ⌝ }
+{
+    if joins { octets as usize } else { 0 }
+}
+
+// The packet begins a group or is added to it: n octets with its user data.
+fn hold(
+    s: State,
+    lane: usize,
+    a: Added,
+    joins: bool,
+    n: usize,
+    user: &[u8],
+    pool: &mut [u8],
+) -> Answered
+    requires { ⌜ Holds lane (laneAt s lane) a joins n (length (now user)) (length (now pool)) ⌝ }
+    ensures { λ r. ⌜ r ≡ answered s lane (Hold a joins n) ⌝ }
+    ensures { λ _. ⌜ now (pool .exit) ≡ poolAfter (s .marks) lane (laneAt s lane) (Hold a joins n) (now (user .entry)) (now (pool .entry)) ⌝ }
+{
+    let lanes = s.lanes;
+    let marks = s.marks;
+    let l = lane_at(lanes, lane);
+    let marks = grow(marks, lane, l, joins, n);
+    store_octets(&marks, lane as u8, pool, start_of(l.octets, joins), user);
+    Answered {
+        answer: Answer::Held {
+            missing: a.missing,
+            given_up: a.broke,
+        },
+        state: with_lane(s, lane, count_in(l, a, 0, true, n as u16), marks),
+    }
+}
+
+// Puts the group that goes on at the front of out, and tells its octets.
+fn put_group(
+    marks: [u16; 64],
+    lane: usize,
+    l: Lane,
+    joins: bool,
+    pool: &[u8],
+    out: &mut [u8],
+) -> usize
+    requires { ⌜ (lane < 8) × (cond joins (l .octets) 0 ≤ length (now out)) × (l .octets ≤ poolOctets) ⌝ }
+    ensures { λ r. ⌜ r ≡ length (groupOf marks lane l joins (now (pool .entry))) ⌝ }
+    ensures { λ _. ⌜ now (out .exit) ≡ puts (now (out .entry)) 0 (groupOf marks lane l joins (now (pool .entry))) ⌝ }
+{
+    if joins {
+        return gather_octets(&marks, lane as u8, pool, l.octets as usize, out);
+    }
+    0
+}
+
+// The packet ends a unit of n octets: the group that goes on and its user data.
+fn end_unit(
+    s: State,
+    lane: usize,
+    a: Added,
+    joins: bool,
+    n: usize,
+    user: &[u8],
+    pool: &[u8],
+    out: &mut [u8],
+) -> Answered
+    requires { ⌜ Ends lane (laneAt s lane) a joins n (length (now user)) (length (now out)) ⌝ }
+    ensures { λ r. ⌜ r ≡ answered s lane (Unit a joins n) ⌝ }
+    ensures { λ _. ⌜ now (out .exit) ≡ outAfter (s .marks) lane (laneAt s lane) (Unit a joins n) (now (user .entry)) (now (pool .entry)) (now (out .entry)) ⌝ }
+{
+    let lanes = s.lanes;
+    let marks = s.marks;
+    let l = lane_at(lanes, lane);
+    let at = put_group(marks, lane, l, joins, pool, out);
+    put_octets(out, at, user);
+    let marks = released(marks, lane, l);
+    Answered {
+        answer: Answer::Unit {
+            octets: n,
+            missing: a.missing,
+            given_up: a.broke,
+        },
+        state: with_lane(s, lane, count_in(l, a, 1, false, 0), marks),
+    }
+}
+
+// The packet belongs to no group.
+fn stray(s: State, lane: usize, a: Added) -> Answered
+    requires { ⌜ Counts lane (laneAt s lane) a 0 false 0 ⌝ }
+    ensures { λ r. ⌜ r ≡ answered s lane (Stray a) ⌝ }
+{
+    let lanes = s.lanes;
+    let marks = s.marks;
+    let l = lane_at(lanes, lane);
+    let marks = released(marks, lane, l);
+    Answered {
+        answer: Answer::Stray {
+            missing: a.missing,
+            given_up: a.broke,
+        },
+        state: with_lane(s, lane, count_in(l, a, 0, false, 0), marks),
+    }
+}
+
+// Takes the step.
+pub(crate) fn carry_out(
+    s: State,
+    lane: usize,
+    step: Step,
+    user: &[u8],
+    pool: &mut [u8],
+    out: &mut [u8],
+) -> Answered
+    requires { ⌜ Ready lane (laneAt s lane) step (length (now user)) (length (now pool)) (length (now out)) ⌝ }
+    ensures { λ r. ⌜ r ≡ answered s lane step ⌝ }
+    ensures { λ _. ⌜ now (pool .exit) ≡ poolAfter (s .marks) lane (laneAt s lane) step (now (user .entry)) (now (pool .entry)) ⌝ }
+    ensures { λ _. ⌜ now (out .exit) ≡ outAfter (s .marks) lane (laneAt s lane) step (now (user .entry)) (now (pool .entry)) (now (out .entry)) ⌝ }
+{
+    match step {
+        Step::Refuse(number) => Answered {
+            answer: Answer::Refused(number),
+            state: s,
+        },
+        Step::Repeat => Answered {
+            answer: Answer::Repeat,
+            state: s,
+        },
+        Step::Stray(a) => stray(s, lane, a),
+        Step::Hold {
+            added,
+            joins,
+            octets,
+        } => hold(s, lane, added, joins, octets, user, pool),
+        Step::Unit {
+            added,
+            joins,
+            octets,
+        } => end_unit(s, lane, added, joins, octets, user, pool, out),
+    }
+}

@@ -1,0 +1,6 @@
+pub mod Tallied
+pub mod Grouped
+pub mod Faulty
+pub mod Fine
+pub mod Accepted
+pub mod Planned

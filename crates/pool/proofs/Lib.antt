@@ -1,0 +1,10 @@
+pub mod Finding
+pub mod Turns
+pub mod InBlocks
+pub mod Guards
+pub mod Looking
+pub mod Apart
+pub mod Leaving
+pub mod Counts
+pub mod Sums
+pub mod Matched

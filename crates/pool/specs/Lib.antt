@@ -1,0 +1,4 @@
+pub mod Blocks
+pub mod Octets
+pub mod Matching
+pub mod Lookup

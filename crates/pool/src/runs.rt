@@ -1,0 +1,71 @@
+// The octets of a lane's group, to and from the pool in runs. A run ends where its block does, and one search finds the block.
+ghost use mathlib.Core.Path.{_≡_};
+ghost use Prim.Native.Nat.{_+_, _≤_, _<_, min};
+ghost use lib.ListN.{length, take, drop};
+ghost use Rattle.octets.specs.Output.{put as puts};
+ghost use Rattle.pool.specs.Octets.{place, stored, gathered};
+use crate::BLOCK_OCTETS;
+use crate::search::find_from;
+use octets::put_octets;
+
+// The smaller of two numbers.
+fn smaller(a: usize, b: usize) -> usize
+    ensures { λ r. ⌜ r ≡ min a b ⌝ }
+{
+    if a <= b { a } else { b }
+}
+
+// Where octet k of the lane's group lies in a pool of n octets, or n where that is past its end. A product that could overflow is not made.
+fn place_within(n: usize, marks: &[u16], lane: u8, k: usize) -> usize
+    requires { ⌜ (n < 9223372036854775808) × (k ≤ 16384) ⌝ }
+    ensures { λ r. ⌜ r ≡ min (place (now (marks .entry)) lane k) n ⌝ }
+{
+    let mark = lane as u16 * 64 + (k / BLOCK_OCTETS) as u16;
+    let block = find_from(marks, 0, mark);
+    if n / BLOCK_OCTETS < block {
+        return n;
+    }
+    smaller(block * BLOCK_OCTETS + k % BLOCK_OCTETS, n)
+}
+
+// The part of s from index at on that has n octets, or as many as there are.
+fn part(s: &[u8], at: usize, n: usize) -> &[u8]
+    ensures { λ r. ⌜ now r ≡ take n (drop at (now (s .entry))) ⌝ }
+{
+    let start = smaller(at, s.len());
+    let end = start + smaller(n, s.len() - start);
+    &s[start..end]
+}
+
+// The octets become octets from, from + 1, .. of the lane's group.
+pub(crate) fn store_runs(marks: &[u16], lane: u8, pool: &mut [u8], from: usize, octets: &[u8])
+    requires { ⌜ (length (now pool) ≡ 16384) × (from + length (now octets) ≤ 16384) ⌝ }
+    ensures { λ _. ⌜ now (pool .exit) ≡ stored (now (marks .entry)) lane (now (pool .entry)) from (now (octets .entry)) ⌝ }
+{
+    let mut done: usize = 0;
+    while done < octets.len() {
+        let k = from + done;
+        let end = done + smaller(BLOCK_OCTETS - k % BLOCK_OCTETS, octets.len() - done);
+        let at = place_within(pool.len(), marks, lane, k);
+        put_octets(pool, at, &octets[done..end]);
+        done = end;
+    }
+}
+
+// Puts the first n octets of the lane's group at the front of out, and tells how many were put.
+pub(crate) fn gather_runs(marks: &[u16], lane: u8, pool: &[u8], n: usize, out: &mut [u8]) -> usize
+    requires { ⌜ (n ≤ length (now out)) × (n ≤ 16384) ⌝ }
+    ensures { λ r. ⌜ r ≡ length (gathered (now (marks .entry)) lane (now (pool .entry)) 0 n) ⌝ }
+    ensures { λ _. ⌜ now (out .exit) ≡ puts (now (out .entry)) 0 (gathered (now (marks .entry)) lane (now (pool .entry)) 0 n) ⌝ }
+{
+    let mut at: usize = 0;
+    let mut k: usize = 0;
+    while k < n {
+        let run = smaller(BLOCK_OCTETS - k % BLOCK_OCTETS, n - k);
+        let text = part(pool, place_within(pool.len(), marks, lane, k), run);
+        put_octets(out, at, text);
+        at += text.len();
+        k += run;
+    }
+    at
+}
