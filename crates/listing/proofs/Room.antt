@@ -17,9 +17,9 @@ use Rattle.packet.proofs.Exactly.{exactly, exactly-whole, numbered}
 use Rattle.packet.proofs.Within.{HeaderIs, one, two, four, eight, header-is}
 use Rattle.walk.specs.Walk.{next, places, end, stop}
 use Rattle.walk.proofs.Rises.{Run, rises}
-use Rattle.listing.specs.Text.{ascii, numbers}
+use Rattle.text.specs.Text.{ascii, numbers}
 use Rattle.listing.specs.Listing.{lineEnd, line, packetLine, packetLines, refusedLine, endLine, listing, recordingText}
-use Rattle.listing.proofs.Short.{digits-below, number-below}
+use Rattle.text.proofs.Short.{digits-below, number-below}
 
 -- a line with four numbers, by their digits
 line-of-four : (at : ℕ) (word : List ℕ) (a b c d : ℕ) (i j k l : ℕ) → at < 10 ^ 5 → length word ≡ 6

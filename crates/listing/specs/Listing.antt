@@ -8,7 +8,7 @@ use Rattle.packet.specs.Space.{apid, flags, count, dataOctets}
 use Rattle.packet.specs.Encapsulation.{protocol, extension, encapHeader, encapSize}
 use Rattle.packet.specs.Reading.{isSpace}
 use Rattle.walk.specs.Walk.{places, end, stop}
-use Rattle.listing.specs.Text.{ascii, decimal, numbers}
+use Rattle.text.specs.Text.{ascii, decimal, numbers}
 
 -- the numbers that end a line
 unfoldable pub lineEnd : List ℕ → List ℕ

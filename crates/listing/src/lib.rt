@@ -1,6 +1,5 @@
 // The listing of some octets as text, written into a lent output.
 mod lines;
-mod text;
 
 ghost use mathlib.Core.Path.{_≡_};
 ghost use Prim.Native.Nat.{_≤_};

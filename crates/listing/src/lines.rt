@@ -5,10 +5,10 @@ ghost use lib.ListN.{length};
 ghost use Rattle.octets.specs.Output.{put as puts};
 ghost use Rattle.listing.specs.Listing.{lineEnd, line, endLine};
 ghost use Rattle.listing.specs.Lines.{lineOf};
-use crate::text::put;
-use crate::text::put_decimal;
-use crate::text::put_numbers;
 use packet::Packet;
+use text::put;
+use text::put_decimal;
+use text::put_numbers;
 
 // Puts the numbers that end a line.
 fn put_line_end(out: &mut [u8], at: usize, ns: &[u64]) -> usize

@@ -11,7 +11,7 @@ use Rattle.walk.proofs.Going.{Going, Turn, at-start}
 use Rattle.listing.specs.Listing.{endLine, listing}
 use Rattle.listing.specs.Lines.{lineOf}
 use Rattle.listing.proofs.Left.{left, left-all, left-end, left-more, left-refused, left-begins}
-use Rattle.listing.proofs.Underway.{Underway, begin, line-fits, line-put, last-fits, last-put}
+use Rattle.text.proofs.Underway.{Underway, begin, line-fits, line-put, last-fits, last-put}
 use Rattle.listing.proofs.put_all.Statement.{statement}
 use Rattle.listing.proofs.put_all.Tie as tie
 

@@ -1,28 +1,32 @@
 -- The word and the numbers are put one after the other.
 use mathlib.Core.List.{[], _∷_}
 use denote.Ref.{now}
-use Rattle.listing.specs.Text.{ascii}
+use Rattle.octets.proofs.Puts.{Wrote, room, room-after, more}
+use Rattle.text.specs.Text.{ascii}
+use Rattle.text.proofs.Cut.{wrote}
 use Rattle.listing.specs.Listing.{lineEnd, endLine}
-use Rattle.octets.proofs.Puts.{room, room-after, more}
 use borrow.Author.Needs.{needs}
 use Rattle.listing.proofs.lines.put_end.Statement.{statement}
 use Rattle.listing.proofs.lines.put_end.Tie as tie
 
-put-requires : tie.Need-put-requires
+-- the word
+front : (c : tie.After-put) → let a = c .before .before .before .before .args in Wrote (now (a .out)) (a .at) (ascii "end") (c .put .last .0) (c .put .result)
 unfolding endLine
-put-requires c κs = let start = c .before .before .before in room (now (start .args .out)) (start .args .at) (ascii "end") (lineEnd (start .args .octets ∷ start .args .packets ∷ [])) (start .pre)
+front c =
+    let start = c .before .before .before .before in
+    wrote (now (start .args .out)) (start .args .at) (ascii "end") (room (now (start .args .out)) (start .args .at) (ascii "end") (lineEnd (start .args .octets ∷ start .args .packets ∷ [])) (start .pre)) (c .put .ensures)
 
 put-line-end-requires : tie.Need-put-line-end-requires
 unfolding endLine
 put-line-end-requires c κs =
     let start = c .before .before .before .before .before .before .before .before in
-    room-after (now (start .args .out)) (start .args .at) (ascii "end") (lineEnd (start .args .octets ∷ start .args .packets ∷ [])) (start .pre) (c .before .before .before .before .put .ensures)
+    room-after (now (start .args .out)) (start .args .at) (ascii "end") (lineEnd (start .args .octets ∷ start .args .packets ∷ [])) (start .pre) (front (c .before .before .before .before))
 
 returns : tie.Need-returns
 unfolding endLine
 returns c =
     let start = c .before .before .before .before .before .before .before .before .before .before .before in
-    more (now (start .args .out)) (start .args .at) (ascii "end") (lineEnd (start .args .octets ∷ start .args .packets ∷ [])) (start .pre) (c .before .before .before .before .before .before .before .put .ensures) (c .before .before .put-line-end .ensures)
+    more (now (start .args .out)) (start .args .at) (ascii "end") (lineEnd (start .args .octets ∷ start .args .packets ∷ [])) (start .pre) (front (c .before .before .before .before .before .before .before)) (c .before .before .put-line-end .ensures)
 
 pub put-end-spec : {M : Type 1} → statement M
-put-end-spec = tie.close (tie.spec (λ c. search needs) put-requires (λ c. search needs) put-line-end-requires (λ c. search needs) returns)
+put-end-spec = tie.close (tie.spec (λ c. search needs) (λ c κs. search needs) (λ c. search needs) put-line-end-requires (λ c. search needs) returns)

@@ -1,27 +1,19 @@
--- The numbers and the end of the line are put one after the other.
+-- The numbers and the end of the line are put one after the other, and there is room for both.
 use denote.Ref.{now}
-use Rattle.listing.specs.Text.{ascii, numbers}
+use Rattle.text.specs.Text.{ascii, numbers}
+use Rattle.text.proofs.Cut.{after, wrote}
 use Rattle.listing.specs.Listing.{lineEnd}
-use Rattle.octets.proofs.Puts.{room, room-after, more}
 use borrow.Author.Needs.{needs}
 use Rattle.listing.proofs.lines.put_line_end.Statement.{statement}
 use Rattle.listing.proofs.lines.put_line_end.Tie as tie
-
-put-numbers-requires : tie.Need-put-numbers-requires
-unfolding lineEnd
-put-numbers-requires c κs = let start = c .before .before .before in room (now (start .args .out)) (start .args .at) (numbers (now (start .args .ns))) (ascii "\n") (start .pre)
-
-put-requires : tie.Need-put-requires
-unfolding lineEnd
-put-requires c κs =
-    let start = c .before .before .before .before .before .before .before .before in
-    room-after (now (start .args .out)) (start .args .at) (numbers (now (start .args .ns))) (ascii "\n") (start .pre) (c .before .before .before .before .put-numbers .ensures)
 
 returns : tie.Need-returns
 unfolding lineEnd
 returns c =
     let start = c .before .before .before .before .before .before .before .before .before .before .before in
-    more (now (start .args .out)) (start .args .at) (numbers (now (start .args .ns))) (ascii "\n") (start .pre) (c .before .before .before .before .before .before .before .put-numbers .ensures) (c .before .before .put .ensures)
+    let ns = numbers (now (start .args .ns)) in
+    let d = now (start .args .out) in
+    wrote d (start .args .at) (lineEnd (now (start .args .ns))) (start .pre) (after d (start .args .at) ns (ascii "\n") (c .before .before .before .before .before .before .before .put-numbers .ensures) (c .before .before .put .ensures))
 
 pub put-line-end-spec : {M : Type 1} → statement M
-put-line-end-spec = tie.close (tie.spec put-numbers-requires (λ c. search needs) put-requires (λ c. search needs) returns)
+put-line-end-spec = tie.close (tie.spec (λ c κs. search needs) (λ c. search needs) (λ c κs. search needs) (λ c. search needs) returns)

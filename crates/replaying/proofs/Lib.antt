@@ -1,0 +1,5 @@
+pub mod Front
+pub mod Short
+pub mod Steps
+pub mod Chunks
+pub mod Whole

@@ -1,0 +1,63 @@
+-- The lines of a run's text. Each begins with the call's offset, what is called and the lane.
+use Prim.Native.Nat.{ℕ, _+_, _≤_}
+use mathlib.Core.Bool.{cond}
+use mathlib.Core.List.{List, [], _∷_, _++_}
+use mathlib.Core.Path.{_≡_}
+use lib.Dec.{eqb}
+use lib.ListN.{length, take}
+use Rattle.octets.specs.Output.{put}
+use Rattle.text.specs.Text.{ascii, decimal, numbers}
+use Rattle.record.specs.Record.{fieldsIn}
+use Rattle.lane.specs.Lane.{one}
+use Rattle.intake.specs.declared.Answer.{Answer}
+use Rattle.intake.specs.declared.Answer.the-variants.{Refused, Repeat, Stray, Held, Unit}
+use Rattle.replaying.specs.Adler.{adler}
+use Rattle.replaying.specs.declared.Outcome.{Outcome}
+use Rattle.replaying.specs.declared.Outcome.the-variants.{Opened, Taken, Closed, Stopped}
+
+unfoldable pub line : ℕ → List ℕ → ℕ → List ℕ → List ℕ → List ℕ
+line at call lane word ns = decimal at ++ call ++ numbers (lane ∷ []) ++ word ++ numbers ns ++ ascii "\n"
+
+-- `refused` gives the number of the refusal, where there is one
+abbrev pub orRefused : ℕ → List ℕ → ℕ → ℕ → List ℕ → List ℕ
+orRefused at call lane refusal told = cond (eqb refusal 0) told (line at call lane (ascii " refused") (refusal ∷ []))
+
+-- held, stray and unit give missing and 0 or 1 for a given-up group; unit then its length and the Adler-32 of its octets
+unfoldable pub packetLine : ℕ → ℕ → Answer → List ℕ → List ℕ
+packetLine at lane (Refused k) out = line at (ascii " packet") lane (ascii " refused") (k ∷ [])
+packetLine at lane Repeat out = line at (ascii " packet") lane (ascii " repeat") []
+packetLine at lane (Stray missing broke) out = line at (ascii " packet") lane (ascii " stray") (missing ∷ one broke ∷ [])
+packetLine at lane (Held missing broke) out = line at (ascii " packet") lane (ascii " held") (missing ∷ one broke ∷ [])
+packetLine at lane (Unit n missing broke) out =
+    line at (ascii " packet") lane (ascii " unit") (missing ∷ one broke ∷ n ∷ adler (take n out) ∷ [])
+
+-- record gives station, APID, units, packets, missing, broken, from the front of the output
+unfoldable pub recordLine : ℕ → ℕ → List ℕ → List ℕ
+recordLine at lane out = line at (ascii " close") lane (ascii " record") (fieldsIn out)
+
+-- `bad` where there is no whole call
+unfoldable pub badLine : ℕ → List ℕ
+badLine at = decimal at ++ ascii " bad\n"
+
+-- the line of what is told of the call at index at, with the output after it
+unfoldable pub lineOf : ℕ → Outcome → List ℕ → List ℕ
+lineOf at (Opened lane refusal) out = orRefused at (ascii " open") lane refusal (line at (ascii " open") lane (ascii " ok") [])
+lineOf at (Taken lane answer) out = packetLine at lane answer out
+lineOf at (Closed lane refusal) out = orRefused at (ascii " close") lane refusal (recordLine at lane out)
+lineOf at Stopped out = badLine at
+
+-- `end` gives the octets of whole calls, their number, and the Adler-32 of the pool
+unfoldable pub endLine : ℕ → ℕ → List ℕ → List ℕ
+endLine at calls pool = ascii "end" ++ numbers (at ∷ calls ∷ adler pool ∷ []) ++ ascii "\n"
+
+-- the end of a run of n octets: `bad` if it stopped before its end, and `end`
+unfoldable pub lastLines : ℕ → ℕ → ℕ → List ℕ → List ℕ
+lastLines n at calls pool = cond (eqb at n) [] (badLine at) ++ endLine at calls pool
+
+-- no step of a run has more octets than so many
+abbrev pub lineRoom : ℕ
+lineRoom = 192
+
+-- text was put into d from index at on, whole, which gave out, and `to` is the place after it
+abbrev pub Lined : List ℕ → ℕ → List ℕ → List ℕ → ℕ → Type 0
+Lined d at text out to = (to ≡ at + length text) × (out ≡ put d at text) × (to ≤ length d)

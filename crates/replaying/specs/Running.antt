@@ -1,0 +1,47 @@
+-- What a call of a run does: what is told of it, and the state, the pool and the output after it. The intake says all of it.
+use Prim.Native.Nat.{ℕ, min}
+use mathlib.Core.List.{List, _++_}
+use lib.ListN.{length, take, drop}
+use Rattle.intake.specs.After.{opening, closing, closingOut, taking, takingPool, takingOut}
+use Rattle.intake.specs.declared.State.{State}
+use Rattle.intake.specs.declared.Changed.{Changed}
+use Rattle.intake.specs.declared.Answered.{Answered}
+use Rattle.replaying.specs.Calls.{packetOctets}
+use Rattle.replaying.specs.declared.Call.{Call}
+use Rattle.replaying.specs.declared.Call.the-variants.{Opening, Packet, Closing, Bad}
+use Rattle.replaying.specs.declared.Outcome.the-variants.{Opened, Taken, Closed, Stopped}
+use Rattle.replaying.specs.declared.Ran.{Ran}
+
+-- a call's output is the front of the one that is lent: as much as it asks for, or all of it. A run lends 131,072 octets, so more counts as that
+abbrev pub roomIn : ℕ → List ℕ → ℕ
+roomIn space out = min space (length out)
+
+abbrev pub opened : ℕ → Changed → Ran
+opened lane c = record { outcome = Opened lane (c .refusal); state = c .state }
+
+abbrev pub taken : ℕ → Answered → Ran
+taken lane a = record { outcome = Taken lane (a .answer); state = a .state }
+
+abbrev pub closed : ℕ → Changed → Ran
+closed lane c = record { outcome = Closed lane (c .refusal); state = c .state }
+
+-- of a call at the front of s, from a state, a pool and an output
+unfoldable pub ran : State → List ℕ → List ℕ → List ℕ → Call → Ran
+ran state s pool out (Opening lane settings) = opened lane (opening state lane settings (length pool))
+ran state s pool out (Packet lane space n) = taken lane (taking state lane (packetOctets s n) (length pool) (roomIn space out))
+ran state s pool out (Closing lane space) = closed lane (closing state lane (length pool) (roomIn space out))
+ran state s pool out Bad = record { outcome = Stopped; state = state }
+
+unfoldable pub poolAfter : State → List ℕ → List ℕ → List ℕ → Call → List ℕ
+poolAfter state s pool out (Opening lane settings) = pool
+poolAfter state s pool out (Packet lane space n) = takingPool state lane (packetOctets s n) (roomIn space out) pool
+poolAfter state s pool out (Closing lane space) = pool
+poolAfter state s pool out Bad = pool
+
+unfoldable pub outAfter : State → List ℕ → List ℕ → List ℕ → Call → List ℕ
+outAfter state s pool out (Opening lane settings) = out
+outAfter state s pool out (Packet lane space n) =
+    takingOut state lane (packetOctets s n) pool (take (roomIn space out) out) ++ drop (roomIn space out) out
+outAfter state s pool out (Closing lane space) =
+    closingOut state lane (length pool) (take (roomIn space out) out) ++ drop (roomIn space out) out
+outAfter state s pool out Bad = out

@@ -1,0 +1,4 @@
+pub mod Decimal
+pub mod Cut
+pub mod Short
+pub mod Underway
