@@ -8,7 +8,15 @@ refuses() {
     [ "$status" -ne 0 ] && [ ! -s "$work/out" ] && [ "$(wc -l <"$work/err")" -eq 1 ] && grep -q "$line" "$work/err"
 }
 
-helps() { ./branmuslin help | grep -q 'list \[FILE\]'; }
+helps() {
+    ./branmuslin help >"$work/out" && grep -q 'list \[FILE\]' "$work/out" && grep -q 'replay \[FILE\]' "$work/out" &&
+        ./branmuslin list --help | cmp - "$work/out" && ./branmuslin replay -h | cmp - "$work/out"
+}
+
+replays_sample() {
+    ./branmuslin replay samples/lanes.run >"$work/out" && cmp "$work/out" samples/lanes.txt &&
+        ./branmuslin replay <samples/lanes.run >"$work/out" && cmp "$work/out" samples/lanes.txt
+}
 
 runs_through_links() {
     ln -sf "$PWD/branmuslin" "$work/one" && ln -sf one "$work/two" && "$work/two" list samples/paper.bin | cmp - samples/paper.txt
@@ -19,14 +27,14 @@ odd_names() {
         (cd "$work" && "$OLDPWD/branmuslin" list -- -x) | cmp - samples/paper.txt
 }
 
-# A listing that can't be written, and a recording that can't be read, are told.
+# full_output WORD, folder_as_input WORD: a text that can't be written, and an input that can't be read, are told.
 full_output() {
-    ./branmuslin list samples/paper.bin >/dev/full 2>"$work/err"
+    ./branmuslin "$1" samples/paper.bin >/dev/full 2>"$work/err"
     [ $? -eq 1 ] && [ "$(wc -l <"$work/err")" -eq 1 ] && grep 'standard output' "$work/err"
 }
 
 folder_as_input() {
-    ./branmuslin list <samples >"$work/out" 2>"$work/err"
+    ./branmuslin "$1" <samples >"$work/out" 2>"$work/err"
     [ $? -eq 1 ] && [ ! -s "$work/out" ] && [ "$(wc -l <"$work/err")" -eq 1 ] && grep 'standard input' "$work/err"
 }
 
@@ -59,15 +67,18 @@ fi
 check 'branmuslin help' helps
 check 'branmuslin: no word' refuses 'which word' ./branmuslin
 check 'branmuslin: an unknown word' refuses "unknown word 'lits'" ./branmuslin lits
-check 'branmuslin list: an unknown option' refuses "unknown option '-x'" ./branmuslin list -x
-check 'branmuslin list: a missing file' refuses 'no such file: nowhere' ./branmuslin list nowhere
-check 'branmuslin list: a folder' refuses 'folder' ./branmuslin list samples
-check 'branmuslin list: two files' refuses 'one file' ./branmuslin list samples/paper.bin samples/every.bin
+for word in list replay; do
+    check "branmuslin $word: an unknown option" refuses "unknown option '-x'" ./branmuslin "$word" -x
+    check "branmuslin $word: a missing file" refuses 'no such file: nowhere' ./branmuslin "$word" nowhere
+    check "branmuslin $word: a folder" refuses 'folder' ./branmuslin "$word" samples
+    check "branmuslin $word: two files" refuses "$word takes one file, and was given 2" ./branmuslin "$word" samples/paper.bin samples/lanes.run
+    check "branmuslin $word: an output that is full" full_output "$word"
+    check "branmuslin $word: a folder as standard input" folder_as_input "$word"
+done
+check 'branmuslin replay: samples/lanes.run' replays_sample
 check 'branmuslin: from another folder' runs_from_elsewhere
 check 'branmuslin: through links' runs_through_links
 check 'branmuslin: odd file names' odd_names
-check 'branmuslin: an output that is full' full_output
-check 'branmuslin: a folder as standard input' folder_as_input
 check 'branmuslin: an output that closes early' first_line_only
 check 'branmuslin: a build that fails' failed_build
 check 'branmuslin: later runs start at once' starts_at_once

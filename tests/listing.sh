@@ -1,6 +1,6 @@
 # What `./branmuslin list` prints for the samples, and at the limits of a recording's length.
-for text in samples/*.txt; do
-    sample=${text%.txt}.bin
+for sample in samples/*.bin; do
+    text=${sample%.bin}.txt
     lists_sample() {
         ./branmuslin list "$sample" >"$work/listed" && cmp "$work/listed" "$text" &&
             "$second" list <"$sample" >"$work/listed" && cmp "$work/listed" "$text"

@@ -99,12 +99,14 @@ pub(crate) fn listing_cases() {
     list_case(b"\x20");
 }
 
-// At most 4,096 octets.
-pub(crate) fn input_cases() {
+// At most 4,096 octets; answers whether there were any.
+pub(crate) fn input_cases() -> bool {
     let mut input = io::buffer();
     let count = io::read_full(STDIN_FILENO, &mut input);
-    if count > 0 {
-        read_case(&input[..count]);
-        walk_case(&input[..count]);
+    if count == 0 {
+        return false;
     }
+    read_case(&input[..count]);
+    walk_case(&input[..count]);
+    true
 }

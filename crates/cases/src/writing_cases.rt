@@ -13,7 +13,7 @@ use writing::Written;
 const FILL: u8 = 0xA5;
 
 // Content to be written: octet i is i mod 251, so that no two places nearby are alike.
-fn fill_content(content: &mut [u8]) {
+pub(crate) fn fill_content(content: &mut [u8]) {
     let mut i = 0;
     while i < content.len() {
         content[i] = (i % 251) as u8;

@@ -4,7 +4,8 @@
 //! - `second list` lists standard input;
 //! - `second replay` replays the run file on standard input;
 //! - `second cases` prints the fixed cases (reading, listing, writing, records,
-//!   lanes) with their answers, then those about standard input;
+//!   lanes) with their answers; or only those about standard input, if it holds
+//!   something;
 //! - `second compare PROGRAM`, `second compare-replay PROGRAM` and
 //!   `second compare-cases PROGRAM` run a program that should print what `list`,
 //!   `replay` or `cases` does, on thousands of inputs.
