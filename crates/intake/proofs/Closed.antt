@@ -3,7 +3,7 @@ use Prim.Native.Nat.{ℕ, _<_}
 use mathlib.Core.Path.{_≡_, refl, sym, ap, _∙_}
 use mathlib.Core.Bool.{Bool, true, false, not}
 use mathlib.Core.List.{List, [], _∷_}
-use borrow.Author.Tests.{eq-eqb, ne-eqb}
+use borrow.Author.Tests.{ne-eqb}
 use native.Mathlib.Omega.{arith}
 use lib.ListN.{length}
 use Rattle.octets.specs.Output.{outputAfter, writerTells}
@@ -15,12 +15,12 @@ use Rattle.record.specs.declared.Record.{Record}
 use Rattle.record.specs.declared.RecordWritten.{RecordWritten}
 use Rattle.record.specs.declared.RecordWritten.the-variants as written
 use Rattle.lane.specs.declared.Lane.{Lane}
-use Rattle.lane.specs.Lane.{closed, brokenWithGroup, talliesPossible}
+use Rattle.lane.specs.Lane.{closed, talliesPossible}
 use Rattle.intake.specs.declared.State.{State}
 use Rattle.intake.specs.declared.Changed.{Changed}
 use Rattle.intake.specs.State.{laneAt, unsound}
 use Rattle.intake.specs.Calls.{closingRefusal}
-use Rattle.intake.specs.After.{refusedChange, changed, releasedFrom, withLane, creditOf, closing, closingOut}
+use Rattle.intake.specs.After.{refusedChange, releasedFrom, withLane, creditOf, closing, closingOut}
 
 abbrev pub Closes : State → ℕ → ℕ → List ℕ → Changed → List ℕ → Type 0
 Closes s i n out r after = (r ≡ closing s i n (length out)) × (after ≡ closingOut s i n out)

@@ -1,14 +1,14 @@
 -- A packet's step is ready to be carried out once the test for 24 has passed: its plan says so. And what is carried out is what the call
 -- promises, since only an accepted packet's user data is used.
-use Prim.Native.Nat.{ℕ, _+_, _≤_, _<_, max}
+use Prim.Native.Nat.{ℕ, _+_, _<_, max}
 use Prim.{tt}
 use mathlib.Core.Path.{_≡_, refl, sym, ap, _∙_}
-use mathlib.Core.Bool.{Bool, true, false, cond}
+use mathlib.Core.Bool.{Bool, true, false}
 use mathlib.Core.List.{List}
 use native.Mathlib.Omega.{arith}
 use lib.Dec.{leb}
 use lib.ListN.{length, drop}
-use Rattle.pool.specs.Blocks.{poolOctets, blocksFor}
+use Rattle.pool.specs.Blocks.{blocksFor}
 use Rattle.lane.specs.declared.Lane.{Lane}
 use Rattle.lane.specs.declared.Plan.{Plan}
 use Rattle.lane.specs.declared.Step.{Step}
@@ -16,7 +16,7 @@ use Rattle.lane.specs.declared.Step.the-variants as step
 use Rattle.lane.specs.Lane.{fine}
 use Rattle.lane.specs.Plans.{packetPlan}
 use Rattle.lane.specs.Steps.{laneAfter}
-use Rattle.lane.specs.Packets.{fault, userData, userOctets}
+use Rattle.lane.specs.Packets.{fault, userOctets}
 use Rattle.lane.proofs.Accepted.{accepted-data}
 use Rattle.lane.proofs.Planned.{of-either, Planned, planned, held-most}
 use Rattle.lane.proofs.Planned as plan
@@ -25,7 +25,8 @@ use Rattle.intake.specs.declared.Answered.{Answered}
 use Rattle.intake.specs.declared.Answer.the-variants as answer
 use Rattle.intake.specs.State.{laneAt, others, unsound}
 use Rattle.intake.specs.Calls.{settle, packetStep}
-use Rattle.intake.specs.After.{userOf, marksAfter, poolAfter, outAfter, answered, taking, takingPool, takingOut}
+use Rattle.intake.specs.After.{userOf, marksAfter, poolAfter, outAfter, answerOf, taking, takingPool, takingOut}
+use Rattle.intake.specs.Told.{told, telling}
 use Rattle.intake.specs.Ready.{Ready}
 use Rattle.intake.proofs.Soundness.{then-sound, lane-fine, opened-small}
 use Rattle.intake.proofs.Taken.{same-state, Leaves}
@@ -109,3 +110,16 @@ pub refused-24 : (s : State) (i : ℕ) (p pool out : List ℕ) (u : Bool) → u 
 unfolding taking takingPool takingOut packetStep laneAfter marksAfter poolAfter outAfter
 refused-24 s i p pool out u e h =
     simp (sym e ∙ h) (ap (λ (t : State). record { answer = answer.Refused 24; state = t }) (same-state s i), refl, refl)
+
+-- the answer tells what the step does
+step-told : (d : Step) → told (answerOf d) ≡ telling d
+step-told (step.Refuse k) = refl
+step-told step.Repeat = refl
+step-told (step.Stray a) = refl
+step-told (step.Hold a on n) = refl
+step-told (step.Unit a on n) = refl
+
+pub answer-told : (s : State) (i : ℕ) (p : List ℕ) (octets room : ℕ) (r : Answered) → r ≡ taking s i p octets room
+    → told (r .answer) ≡ telling (packetStep s i p octets room)
+unfolding taking
+answer-told s i p octets room r e = rw e (step-told (packetStep s i p octets room))

@@ -1,10 +1,9 @@
 -- The step is one of five, and each leaves what its own function promises; the other parts stay.
 use Prim.Native.Nat.{ℕ}
-use mathlib.Core.Path.{_≡_, refl, sym, ap, _∙_}
+use mathlib.Core.Path.{_≡_, refl, ap}
 use mathlib.Core.Bool.{Bool}
 use mathlib.Core.List.{List}
 use lib.Seq.{set-getD}
-use Rattle.lane.specs.declared.Lane.{Lane}
 use Rattle.lane.specs.declared.Added.{Added}
 use Rattle.lane.specs.declared.Step.{Step}
 use Rattle.lane.specs.declared.Step.the-variants as step

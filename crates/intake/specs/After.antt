@@ -1,7 +1,7 @@
 -- What a call tells, and the state, the pool and the output after it.
 use Prim.Native.Nat.{ℕ, _-_}
 use mathlib.Core.Bool.{Bool, true, false, cond}
-use mathlib.Core.List.{List, [], _∷_, _++_}
+use mathlib.Core.List.{List, [], _++_}
 use lib.ListN.{length, set}
 use Rattle.octets.specs.Output.{unlessRefused, put, outputAfter}
 use Rattle.record.specs.Told.{octetsOf}
@@ -42,7 +42,7 @@ unfoldable pub opening : State → ℕ → Settings → ℕ → Changed
 opening s i settings octets = changed (openingRefusal s i settings octets) (withLane s i (openedWith settings) (s .marks)) s
 
 -- ---- closing
--- the marks without those of the lane's group, if it has one
+-- the marks without those of the lane's group; a lane without a group has no blocks
 unfoldable pub releasedFrom : List ℕ → ℕ → Lane → List ℕ
 releasedFrom marks i l = cond (l .grouped) (freed marks i) marks
 
@@ -100,12 +100,12 @@ answerOf (step.Stray a) = answer.Stray (a .missing) (a .broke)
 answerOf (step.Hold a on n) = answer.Held (a .missing) (a .broke)
 answerOf (step.Unit a on n) = answer.Unit n (a .missing) (a .broke)
 
--- all of it, for a step taken in lane i with user data u
+-- the answer and the state after step d in lane i
 abbrev pub answered : State → ℕ → Step → Answered
 answered s i d =
     record { answer = answerOf d; state = withLane s i (laneAfter (laneAt s i) d) (marksAfter (s .marks) i (laneAt s i) d) }
 
--- the packet's own
+-- a packet's user data, by the settings of lane i
 abbrev pub userOf : State → ℕ → List ℕ → List ℕ
 userOf s i packet = userData (laneAt s i .settings) packet
 

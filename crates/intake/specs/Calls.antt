@@ -1,8 +1,7 @@
 -- The three calls: which refusal is given, or what is done.
 use Prim.Native.Nat.{ℕ, _+_}
-use mathlib.Core.Bool.{Bool, cond, not}
+use mathlib.Core.Bool.{cond, not}
 use mathlib.Core.List.{List, [], _∷_}
-use lib.ListN.{length}
 use lib.Dec.{ltb, leb}
 use Rattle.octets.specs.Order.{Test, _gives_, first}
 use Rattle.record.specs.Record.{recordSize}

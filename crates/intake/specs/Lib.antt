@@ -1,4 +1,5 @@
 pub mod State
 pub mod Calls
 pub mod After
+pub mod Told
 pub mod Ready

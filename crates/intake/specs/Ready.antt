@@ -3,8 +3,6 @@ use Prim.Native.Nat.{ℕ, _+_, _≤_, _<_}
 use Prim.{Unit}
 use mathlib.Core.Path.{_≡_}
 use mathlib.Core.Bool.{Bool, true, false, cond}
-use mathlib.Core.List.{List}
-use lib.ListN.{length}
 use Rattle.pool.specs.Blocks.{poolOctets}
 use Rattle.lane.specs.declared.Lane.{Lane}
 use Rattle.lane.specs.declared.Added.{Added}
@@ -17,7 +15,7 @@ use Rattle.lane.specs.Steps.{counted}
 abbrev pub Counts : ℕ → Lane → Added → ℕ → Bool → ℕ → Type 0
 Counts i l a units grouped octets = (i < 8) × (fine (counted l a units grouped octets) ≡ true)
 
--- n octets are those of the group that goes on and of the user data, and the pool is one
+-- n octets are those of the group that goes on and of the user data, and the pool has 16,384
 abbrev pub Holds : ℕ → Lane → Added → Bool → ℕ → ℕ → ℕ → Type 0
 Holds i l a on n user pool =
     Counts i l a 0 true n × (n ≡ cond on (l .octets) 0 + user) × (n ≤ poolOctets) × (l .octets ≤ poolOctets) × (pool ≡ poolOctets)

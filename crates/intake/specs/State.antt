@@ -1,8 +1,8 @@
 -- Eight lanes and one pool: the state, and when it is sound.
 use Prim.Native.Nat.{ℕ, _+_}
-use mathlib.Core.Bool.{Bool, true, not, _&&_, _||_}
+use mathlib.Core.Bool.{Bool, true, not, _&&_}
 use mathlib.Core.List.{List, [], _∷_, map}
-use lib.ListN.{length, getD, set, replicate}
+use lib.ListN.{getD, set, replicate}
 use lib.Dec.{eqb, leb}
 use Rattle.pool.specs.Blocks.{poolOctets, free}
 use Rattle.pool.specs.Matching.{matching}

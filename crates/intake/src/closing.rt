@@ -8,7 +8,7 @@ use lane::Lane;
 use pool::free_blocks;
 use record::Record;
 
-// 1 for an open group.
+// 1 for yes, 0 for no.
 pub(crate) fn one_if(b: bool) -> u32
     ensures { λ r. ⌜ r ≡ one b ⌝ }
 {

@@ -15,7 +15,7 @@ use lane::is_fine;
 use lane::need_of;
 use pool::blocks_for;
 
-// A lane by its number, and a closed one for a number over 7.
+// A lane by its number, and a closed one for a number over 7. The array that is passed whole tells its length, which a field does not.
 pub(crate) fn lane_at(lanes: [Lane; 8], i: usize) -> Lane
     ensures { λ r. ⌜ r ≡ getD lanes i closed ⌝ }
     ensures { λ _. ⌜ length lanes ≡ 8 ⌝ }
@@ -80,7 +80,7 @@ pub(crate) fn total_of(lanes: [Lane; 8]) -> usize
     sum
 }
 
-// The blocks of a lane's group; so few octets have at most 256.
+// The blocks of a lane's group; octets of 16 bits have at most 256.
 fn blocks_of(octets: u16) -> u16
     ensures { λ r. ⌜ r ≡ blocksFor octets ⌝ }
 {

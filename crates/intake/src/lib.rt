@@ -1,4 +1,4 @@
-// The intake: eight lanes that share one pool. State and pool are handed back as a call left them; a refusal leaves everything as it was.
+// The intake: eight lanes that share one pool. The state is handed in and back, the pool is lent; a refusal leaves everything as it was.
 mod closing;
 mod lanes;
 mod taking;
@@ -6,6 +6,8 @@ mod taking;
 ghost use mathlib.Core.Path.{_≡_};
 ghost use lib.ListN.{length};
 ghost use Rattle.intake.specs.State.{freshState, sound, unsound};
+ghost use Rattle.intake.specs.Calls.{packetStep};
+ghost use Rattle.intake.specs.Told.{told, telling};
 ghost use Rattle.intake.specs.After.{refusedChange, opening, closing, closingOut, taking, takingPool, takingOut};
 use closing::credit_of;
 use closing::released;
@@ -147,6 +149,7 @@ pub fn take_packet(
     pool: &mut [u8],
     out: &mut [u8],
 ) -> Answered
+    ensures { λ r. ⌜ told (r .answer) ≡ telling (packetStep s lane (now (octets .entry)) (length (now (pool .entry))) (length (now (out .entry)))) ⌝ }
     ensures { λ r. ⌜ r ≡ taking s lane (now (octets .entry)) (length (now (pool .entry))) (length (now (out .entry))) ⌝ }
     ensures { λ _. ⌜ now (pool .exit) ≡ takingPool s lane (now (octets .entry)) (length (now (out .entry))) (now (pool .entry)) ⌝ }
     ensures { λ _. ⌜ now (out .exit) ≡ takingOut s lane (now (octets .entry)) (now (pool .entry)) (now (out .entry)) ⌝ }

@@ -60,7 +60,7 @@ pub(crate) fn settled(lanes: [Lane; 8], i: usize, plan: Plan) -> Step
     }
 }
 
-// Whether so many blocks are at most 64 in all; the sum could overflow, and is not made.
+// Whether so many blocks and the other lanes' are at most 64; the sum could overflow, and is not made.
 fn is_room(blocks: usize, others: usize) -> bool
     ensures { λ r. ⌜ r ≡ leb (blocks + others) 64 ⌝ }
 {

@@ -1,15 +1,15 @@
 -- What a fine lane is, clause by clause, both ways; and what legal settings are.
-use Prim.Native.Nat.{ℕ, _+_, _*_, _-_, _≤_, _<_}
-use mathlib.Core.Path.{_≡_, refl, sym, ap, _∙_}
-use mathlib.Core.Bool.{Bool, true, false, cond, not, _&&_, _||_, true≢false}
+use Prim.Native.Nat.{ℕ, _+_, _*_, _-_, _≤_}
+use mathlib.Core.Path.{_≡_, refl, sym}
+use mathlib.Core.Bool.{Bool, true, false, not, _&&_, _||_, true≢false}
 use native.Mathlib.Omega.{arith}
-use borrow.Author.Tests.{leb-true, le-leb, ltb-true, ltb-false, le-ltb, eqb-true, eqb-false, eq-eqb, ne-eqb}
+use borrow.Author.Tests.{leb-true, le-leb, ltb-false, le-ltb, eqb-true, eq-eqb}
 use lib.Dec.{eqb, leb, ltb}
 use Rattle.octets.proofs.Order.{either, neither, both}
 use Rattle.record.specs.Record.{mostMissing, possible}
 use Rattle.lane.specs.declared.Settings.{Settings}
 use Rattle.lane.specs.declared.Lane.{Lane}
-use Rattle.lane.specs.Lane.{one, held, illegal, brokenWithGroup, talliesPossible, fine}
+use Rattle.lane.specs.Lane.{held, illegal, brokenWithGroup, talliesPossible, fine}
 
 -- 16,382 for each packet but the first
 most-missing : (n : ℕ) → mostMissing n ≡ 16382 * (n - 1)

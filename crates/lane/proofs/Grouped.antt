@@ -1,7 +1,9 @@
 -- What the code works out in steps is the grouping rule's: one law for each way out.
 use Prim.Native.Nat.{ℕ, _+_}
-use mathlib.Core.Path.{_≡_}
-use mathlib.Core.Bool.{Bool, true, false, cond, not, _&&_}
+use mathlib.Core.Path.{_≡_, refl}
+use mathlib.Core.Bool.{Bool, true, false, cond, not, _&&_, _||_}
+use mathlib.Core.Logic.{_⊎_, inl, inr}
+use lib.Dec.{eqb, ltb}
 use borrow.Author.Tests.{eq-eqb, ne-eqb}
 use Rattle.lane.specs.declared.Lane.{Lane}
 use Rattle.lane.specs.declared.Added.{Added}
@@ -47,3 +49,25 @@ module _ (l : Lane) (f c n room m : ℕ) (em : m ≡ missingBefore l c) (b : Boo
         pub ends : (p : Plan) → p ≡ unitPlan room added on k → (f ≡ 0 → ⊥) → p ≡ groupingPlan l f c n room
         unfolding groupingPlan goesOn givesUp joined
         ends p e h = simp (e, ek, eb, em, goes-on, ne-eqb f 3 not3, ne-eqb f 1 not1, ne-eqb f 0 h)
+
+-- a first or an unsegmented packet never goes on with the open group
+or-first : (a b : Bool) → a || true || b ≡ true
+or-first true b = refl
+or-first false b = refl
+
+or-last : (a : Bool) → a || true ≡ true
+or-last true = refl
+or-last false = refl
+
+and-false : (a : Bool) → a && false ≡ false
+and-false true = refl
+and-false false = refl
+
+breaks-anew : (m f : ℕ) → (f ≡ 1) ⊎ (f ≡ 3) → breaks m f ≡ true
+unfolding breaks
+breaks-anew m f (inl e) = rw (eq-eqb f 1 e) (or-first (ltb 0 m) (eqb f 3))
+breaks-anew m f (inr e) = rw (eq-eqb f 3 e) (or-last (ltb 0 m || eqb f 1))
+
+pub anew : (l : Lane) (f c : ℕ) → (f ≡ 1) ⊎ (f ≡ 3) → goesOn l f c ≡ false
+unfolding goesOn
+anew l f c h = rw (breaks-anew (missingBefore l c) f h) (and-false (l .grouped))

@@ -2,9 +2,9 @@
 -- public one promises.
 use Prim.Native.Nat.{ℕ, _+_}
 use mathlib.Core.Bool.{not}
-use mathlib.Core.List.{List, [], _∷_}
+use mathlib.Core.List.{[], _∷_}
 use lib.Dec.{eqb, ltb}
-use Rattle.octets.specs.Order.{Test, _gives_, first}
+use Rattle.octets.specs.Order.{_gives_, first}
 use Rattle.packet.specs.Space.{spaceHeader}
 use Rattle.packet.specs.Told.{numberOf, sizeOf}
 use Rattle.packet.specs.declared.Packet.{Packet}

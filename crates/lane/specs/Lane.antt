@@ -11,14 +11,14 @@ use Rattle.lane.specs.declared.Lane.{Lane}
 unfoldable pub one : Bool → ℕ
 one b = cond b 1 0
 
--- a lane as at the fresh start
 abbrev pub unset : Settings
 unset = record { station = 0; apid = 0; secondary = 0; share = 0; cap = 0 }
 
+-- a lane as at the fresh start
 abbrev pub closed : Lane
 closed = record { opened = false; settings = unset; units = 0; packets = 0; missing = 0; broken = 0; last = 0; grouped = false; octets = 0 }
 
--- A lane with an open group of n octets holds n/256 blocks, rounded up; else none, since it has no octets
+-- A lane with an open group of n octets holds n/256 blocks, rounded up; else none: a fine lane without a group has no octets
 abbrev pub held : Lane → ℕ
 held l = blocksFor (l .octets)
 
@@ -30,10 +30,10 @@ need l = cond (l .opened) (max (held l) (l .settings .share)) 0
 unfoldable pub illegal : Settings → Bool
 illegal s = ltb 2046 (s .apid) || ltb 63 (s .secondary) || ltb (s .cap) (s .share) || ltb 64 (s .cap)
 
--- the tallies, counting an open group as broken, form a possible record
 abbrev pub brokenWithGroup : Lane → ℕ
 brokenWithGroup l = l .broken + one (l .grouped)
 
+-- the tallies, counting an open group as broken, form a possible record
 unfoldable pub talliesPossible : Lane → Bool
 talliesPossible l = possible (l .settings .apid) (l .units) (l .packets) (l .missing) (brokenWithGroup l)
 

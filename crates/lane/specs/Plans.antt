@@ -1,15 +1,14 @@
 -- What a packet does to its lane, decided from that lane alone. Only whether there is room beside the other lanes is left to ask.
 use Prim.Native.Nat.{ℕ, max}
-use mathlib.Core.Bool.{Bool, cond, not}
+use mathlib.Core.Bool.{Bool, not}
 use mathlib.Core.List.{List, [], _∷_}
 use lib.Dec.{eqb, ltb, leb}
-use Rattle.octets.specs.Order.{Test, _gives_, first}
+use Rattle.octets.specs.Order.{_gives_, first}
 use Rattle.packet.specs.Space.{flags, count}
 use Rattle.pool.specs.Blocks.{blocksFor}
 use Rattle.lane.specs.declared.Settings.{Settings}
 use Rattle.lane.specs.declared.Lane.{Lane}
 use Rattle.lane.specs.declared.Added.{Added}
-use Rattle.lane.specs.declared.Step.{Step}
 use Rattle.lane.specs.declared.Step.the-variants.{Refuse, Repeat, Stray, Hold, Unit}
 use Rattle.lane.specs.declared.Plan.{Plan}
 use Rattle.lane.specs.declared.Plan.the-variants.{Sure, Ask}
@@ -32,7 +31,7 @@ unitPlan room t on n =
     ((ltb room n gives refusing 20) ∷ [])
 
 -- Flags 3: the user data is a unit. Flags 1: it opens a group. Flags 0 or 2 without an open group: Stray. Flags 0: added. Flags 2: group and
--- user data together are a unit
+-- user data together are a unit. No group goes on with flags 1 or 3 (the law `anew`)
 unfoldable pub groupingPlan : Lane → ℕ → ℕ → ℕ → ℕ → Plan
 groupingPlan l f c n room =
     first (unitPlan room (addedFrom l f c) (goesOn l f c) (joined l f c n))

@@ -118,7 +118,7 @@ pub fn is_illegal(s: Settings) -> bool
     (2046 < s.apid) | (63 < s.secondary) | (s.cap < s.share) | (64 < s.cap)
 }
 
-// An open group as a number.
+// 1 for yes, 0 for no.
 fn one_if(b: bool) -> u64
     ensures { λ r. ⌜ r ≡ one b ⌝ }
 {

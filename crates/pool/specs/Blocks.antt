@@ -1,7 +1,7 @@
 -- The pool: 64 blocks of 256 octets. Each block bears a mark: 512 if it is free, else lane x 64 + place, where place counts the lane's blocks
 -- from 0 as taken. So a block never belongs to two.
 use Prim.Native.Nat.{ℕ, zero, suc, _+_, _*_, _/_}
-use mathlib.Core.Bool.{Bool, cond}
+use mathlib.Core.Bool.{cond}
 use mathlib.Core.List.{List, [], _∷_, map}
 use lib.ListN.{set}
 use lib.Dec.{eqb}
@@ -27,7 +27,7 @@ unfoldable pub find : List ℕ → ℕ → ℕ
 find [] m = 0
 find (o ∷ os) m = cond (eqb o m) 0 (suc (find os m))
 
--- the n lowest-numbered free blocks, in rising order, get the marks m, m + 1, ..
+-- the n lowest-numbered free blocks, or all of them where fewer are free, get the marks m, m + 1, .. in rising order
 unfoldable pub granted : List ℕ → ℕ → ℕ → List ℕ
 granted marks m zero = marks
 granted marks m (suc n) = granted (set marks (find marks free) m) (m + 1) n

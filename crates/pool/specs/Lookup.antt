@@ -1,4 +1,4 @@
--- A table that the code makes of the marks, so that no place is searched for.
+-- A table that the code makes of the marks, so that no place is searched for. Only functions within the crate promise it.
 use Prim.Native.Nat.{ℕ, _<_}
 use mathlib.Core.Path.{_≡_}
 use mathlib.Core.List.{List}

@@ -1,6 +1,7 @@
 -- When the marks match what the lanes hold: every place that a lane holds has its block, and the free blocks and the held ones are 64 in all.
+-- Places are different marks, so they lie on different blocks; with the free ones these are all 64, so no block is held twice or by no lane.
 use Prim.Native.Nat.{ℕ, zero, suc, _+_}
-use mathlib.Core.Bool.{Bool, true, false, cond, _&&_}
+use mathlib.Core.Bool.{Bool, true, cond, _&&_}
 use mathlib.Core.List.{List, [], _∷_}
 use lib.Dec.{eqb, leb, ltb}
 use Rattle.pool.specs.Blocks.{free, mark, find}
@@ -19,10 +20,11 @@ unfoldable pub eachHolds : List ℕ → ℕ → List ℕ → Bool
 eachHolds marks lane [] = true
 eachHolds marks lane (n ∷ held) = holds marks lane n && eachHolds marks (lane + 1) held
 
--- how many marks pass a test
+-- 1 for yes, 0 for no
 unfoldable pub one : Bool → ℕ
 one b = cond b 1 0
 
+-- how many marks pass a test
 unfoldable pub count : (ℕ → Bool) → List ℕ → ℕ
 count p [] = 0
 count p (o ∷ os) = one (p o) + count p os

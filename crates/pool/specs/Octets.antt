@@ -4,7 +4,6 @@ use mathlib.Core.Bool.{cond, _&&_}
 use mathlib.Core.List.{List, [], _∷_, _++_}
 use lib.ListN.{length, set, take, drop}
 use lib.Dec.{eqb, leb}
-use Rattle.octets.specs.Output.{put}
 use Rattle.pool.specs.Blocks.{blockOctets, poolOctets, mark, find}
 
 -- where octet k of the lane's group lies in the pool; at or past the pool's end if no block bears the mark

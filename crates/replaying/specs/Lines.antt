@@ -39,7 +39,7 @@ recordLine at lane out = line at (ascii " close") lane (ascii " record") (fields
 unfoldable pub badLine : ℕ → List ℕ
 badLine at = decimal at ++ ascii " bad\n"
 
--- the line of what is told of the call at index at, with the output after it
+-- the line of what is told of the call at index at, with the output after it. A run ends before it would tell `Stopped`
 unfoldable pub lineOf : ℕ → Outcome → List ℕ → List ℕ
 lineOf at (Opened lane refusal) out = orRefused at (ascii " open") lane refusal (line at (ascii " open") lane (ascii " ok") [])
 lineOf at (Taken lane answer) out = packetLine at lane answer out
@@ -54,10 +54,10 @@ endLine at calls pool = ascii "end" ++ numbers (at ∷ calls ∷ adler pool ∷ 
 unfoldable pub lastLines : ℕ → ℕ → ℕ → List ℕ → List ℕ
 lastLines n at calls pool = cond (eqb at n) [] (badLine at) ++ endLine at calls pool
 
--- no step of a run has more octets than so many
+-- the text of any step has at most so many octets
 abbrev pub lineRoom : ℕ
 lineRoom = 192
 
--- text was put into d from index at on, whole, which gave out, and `to` is the place after it
+-- text was put into d from index at on, whole, which gave out, and `to` is the place after it. Only functions within the crate promise it
 abbrev pub Lined : List ℕ → ℕ → List ℕ → List ℕ → ℕ → Type 0
 Lined d at text out to = (to ≡ at + length text) × (out ≡ put d at text) × (to ≤ length d)

@@ -89,7 +89,7 @@ unfoldable pub runText : List ℕ → List ℕ
 runText s = textFrom s (standing start (zeros 16384) (zeros 131072))
 
 -- ---- a chunk of it: steps are taken while there is room for any of them in so many octets, from index `to` on. No run has more calls than
--- octets, or more octets of calls than octets: where a progress says so, nothing is run
+-- octets of calls, or more of these than octets: where a progress says otherwise, nothing is run
 unfoldable pub ready : ℕ → ℕ → Progress → ℕ → Bool
 ready n room p to = not (p .done) && leb (p .calls) (p .at) && leb (p .at) n && leb (to + lineRoom) room
 

@@ -14,7 +14,7 @@ fn add(m: u32, n: u32) -> u32
     if sum < BASE { sum } else { sum - BASE }
 }
 
-pub fn adler32(s: &[u8]) -> u32
+pub(crate) fn adler32(s: &[u8]) -> u32
     ensures { λ r. ⌜ r ≡ adler (now (s .entry)) ⌝ }
 {
     let mut a: u32 = 1;

@@ -12,7 +12,6 @@ ghost use lib.ListN.{length};
 ghost use Rattle.octets.specs.Output.{put as puts};
 ghost use Rattle.replaying.specs.Lines.{Lined};
 ghost use Rattle.replaying.specs.Run.{standing, start, finished, ready, next, nextText, chunkText, chunkAfter, chunkOf};
-pub use adler::adler32;
 use calls::run_call;
 use intake::Answer;
 use intake::State;

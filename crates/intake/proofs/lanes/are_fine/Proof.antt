@@ -1,6 +1,6 @@
 -- The lanes before the place are fine, so what is left decides.
 use borrow.Author.Tests.{not-true, not-false}
-use Prim.Native.Nat.{_+_, _-_, _≤_}
+use Prim.Native.Nat.{_-_, _≤_}
 use mathlib.Core.Path.{_≡_, sym, _∙_}
 use lib.ListN.{length, drop}
 use Rattle.lane.specs.Lane.{fine}

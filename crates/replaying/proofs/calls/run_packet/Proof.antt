@@ -13,7 +13,7 @@ slice-aggregate-take-packet c = simp length-take (omega arith)
 returns : tie.Need-returns
 returns c =
     let a = c .before .before .before .before .before .before .before .before .before .before .before .before .before .args in
-    let told = c .before .before .before .before .before .take-packet .ensures in
+    let told = c .before .before .before .before .before .take-packet .ensures .1 in
     taking-done (a .state) (a .lane) (a .space) (now (a .s)) (now (a .pool)) (now (a .out)) (c .before .before .before .before .before .before .before .before .before .smaller .result) (c .before .before .before .before .before .before .before .before .before .smaller .ensures) (a .octets) (told .0) (told .1 .0) (told .1 .1)
 
 pub run-packet-spec : {M : Type 1} → statement M
