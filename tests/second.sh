@@ -1,4 +1,4 @@
-# The independent second program (tests/second): its own tests, then compared with the programs `cases` and `list`, and with the C library by
+# The independent second program (tests/second): its own tests, then compared with the programs `cases`, `list` and `replay`, and with the C library by
 # calling it.
 second=$CARGO_TARGET_DIR/release/second
 export BRANMUSLIN_ARCHIVE=$PWD/target/staticlib/libbranmuslin.a
@@ -13,4 +13,5 @@ check "the second program's own tests" cargo test --quiet --release --offline --
 check 'cases: the second program prints the same' second_cases
 check 'cases: the second program reads and walks thousands of generated inputs alike' "$second" compare-cases target/bin/cases
 check 'list: the second program lists thousands of generated inputs alike' "$second" compare target/bin/list
+check 'replay: the second program replays thousands of generated run files alike' "$second" compare-replay target/bin/replay
 check 'library: the second program calls it and finds the same, every octet' "$CARGO_TARGET_DIR/release/calls"

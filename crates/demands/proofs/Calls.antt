@@ -96,7 +96,7 @@ module _ (s : State) (k : Sound s) (i : ℕ) where
 
   pub taking-sound : (p : List ℕ) (octets room : ℕ) → Sound (taking s i p octets room .state)
   unfolding taking
-  taking-sound p octets room = after-step s k i p octets (stepped s k i p octets room)
+  taking-sound p octets room = after-step s k i p octets room (stepped s k i p octets room)
 
 pub after-sound : (s : State) → Sound s → (c : Call) → Sound (after s c)
 unfolding after

@@ -1,12 +1,13 @@
 -- What is in the pool: a lane's calls leave every other lane's group, and what they store is what is gathered later. It rests on the marks of the
 -- state after the call, which match too, so every octet of every group has its own place.
-use Prim.Native.Nat.{ℕ, _-_, _*_, _≤_, _<_}
+use Prim.Native.Nat.{ℕ, _+_, _-_, _*_, _≤_, _<_}
 use mathlib.Core.Path.{_≡_, refl, sym, ap, _∙_}
 use mathlib.Core.Bool.{Bool, true, false, cond}
 use mathlib.Core.List.{List, _++_, map}
 use native.Mathlib.Omega.{arith}
-use lib.ListN.{length, getD, set, length-map}
+use lib.ListN.{length, getD, set, length-append, length-map}
 use lib.Seq.{getD-set-same, getD-set-other}
+use Rattle.octets.proofs.Order.{either}
 use Rattle.pool.specs.Blocks.{blocksFor}
 use Rattle.pool.specs.Octets.{stored, gathered}
 use Rattle.pool.proofs.InBlocks.{stored-length}
@@ -81,17 +82,17 @@ module _ (s : State) (k : Sound s) (i j : ℕ) (other : i ≡ j → ⊥) (small 
   closing-leaves octets room =
       unless (λ (t : State). Leaves j s pool t pool) (closingRefusal s i octets room) stays (λ e. leaves _ _ pool (released-other s i j (laneAt s j .octets) other small fits pool))
 
-  after-leaves : (p : List ℕ) (octets : ℕ) {d : Step} → Stepped s i p octets d
+  after-leaves : (p : List ℕ) (octets room : ℕ) {d : Step} → Stepped s i p octets room d
       → Leaves j s pool (answered s i d .state) (poolAfter (s .marks) i (laneAt s i) d (userOf s i p) pool)
   unfolding laneAfter marksAfter poolAfter
-  after-leaves p octets (refuses n h t) = leaves _ (s .marks) pool refl
-  after-leaves p octets repeats = leaves _ (s .marks) pool refl
-  after-leaves p octets (strays a f) = leaves _ _ pool (released-other s i j (laneAt s j .octets) other small fits pool)
-  after-leaves p octets (ends a on n f) = leaves _ _ pool (released-other s i j (laneAt s j .octets) other small fits pool)
-  after-leaves p octets (holds a on n f e) =
+  after-leaves p octets room (refuses n h t) = leaves _ (s .marks) pool refl
+  after-leaves p octets room repeats = leaves _ (s .marks) pool refl
+  after-leaves p octets room (strays a f) = leaves _ _ pool (released-other s i j (laneAt s j .octets) other small fits pool)
+  after-leaves p octets room (ends a on n f e h) = leaves _ _ pool (released-other s i j (laneAt s j .octets) other small fits pool)
+  after-leaves p octets room (holds a on n f e) =
       let g = group-grows s k i a on n (length (userOf s i p)) f e in
       let marks : List ℕ = grown (s .marks) i (laneAt s i) on n in
-      let has : Has marks j (laneAt s j .octets) = rw (lane-other (laneAfter (laneAt s i) (Hold a on n))) at (has-places _ (after-step s k i p octets (holds a on n f e)) j small) in
+      let has : Has marks j (laneAt s j .octets) = rw (lane-other (laneAfter (laneAt s i) (Hold a on n))) at (has-places _ (after-step s k i p octets room (holds a on n f e)) j small) in
       leaves _ marks _
       (stored-for-another marks j i pool (cond on (laneAt s i .octets) 0) (userOf s i p) (laneAt s j .octets) (λ z. other (sym z)) fits
       (omega (arith, held-most (laneAfter (laneAt s i) (Hold a on n)) (f .good) .1)) has
@@ -99,7 +100,7 @@ module _ (s : State) (k : Sound s) (i j : ℕ) (other : i ≡ j → ⊥) (small 
 
   pub taking-leaves : (p : List ℕ) (room : ℕ) → Leaves j s pool (taking s i p (length pool) room .state) (takingPool s i p room pool)
   unfolding taking takingPool
-  taking-leaves p room = after-leaves p (length pool) (stepped s k i p (length pool) room)
+  taking-leaves p room = after-leaves p (length pool) room (stepped s k i p (length pool) room)
 
 -- ---- the lane's own group
 module _ (s : State) (k : Sound s) (i : ℕ) (p : List ℕ) where
@@ -121,22 +122,37 @@ module _ (s : State) (k : Sound s) (i : ℕ) (p : List ℕ) where
     abbrev start : ℕ
     start = cond on (laneAt s i .octets) 0
 
+    abbrev joinedWith : List ℕ
+    joinedWith = groupOf (s .marks) i (laneAt s i) on pool ++ user
+
+    group-length : i < 8 → length (groupOf (s .marks) i (laneAt s i) on pool) ≡ start
+    unfolding groupOf
+    group-length small =
+        either on (λ e. simp e (gathered-length (s .marks) (k .shape .1) i pool (laneAt s i .octets) size (has-places s k i small))) (λ e. simp e)
+
+    joined-length : i < 8 → n ≡ start + length user → length joinedWith ≡ n
+    joined-length small e = length-append (groupOf (s .marks) i (laneAt s i) on pool) user ∙ omega (arith, group-length small, e)
+
     -- what was stored is what is gathered, all of it
-    pub held-gathered : {octets : ℕ} → Stepped s i p octets (Hold a on n)
-        → (gathered marks i (stored marks i pool start user) 0 n ≡ groupOf (s .marks) i (laneAt s i) on pool ++ user)
-        × (length (gathered marks i (stored marks i pool start user) 0 n) ≡ n)
+    pub held-gathered : {octets room : ℕ} → Stepped s i p octets room (Hold a on n)
+        → (groupIn (answered s i (Hold a on n) .state) (stored marks i pool start user) i ≡ joinedWith) × (length joinedWith ≡ n)
     unfolding laneAfter marksAfter
-    held-gathered {octets} (holds a on n f e) =
-        let next : Sound (answered s i (Hold a on n) .state) = after-step s k i p octets (holds a on n f e) in
+    held-gathered {octets} {room} (holds a on n f e) =
+        let next : Sound (answered s i (Hold a on n) .state) = after-step s k i p octets room (holds a on n f e) in
         let here : laneAt (answered s i (Hold a on n) .state) i ≡ laneAfter (laneAt s i) (Hold a on n) =
         getD-set-same (s .lanes) i (laneAfter (laneAt s i) (Hold a on n)) closed (omega (arith, k .shape .0, f .small)) in
         let has : Has marks i n = rw here at (has-places _ next i (f .small)) in
         let g = group-grows s k i a on n (length user) f e in (
-          ap (λ (m : ℕ). gathered marks i (stored marks i pool start user) 0 m) e
+          rw here
+              (ap (λ (m : ℕ). gathered marks i (stored marks i pool start user) 0 m) e
               ∙ stored-gathered marks (next .shape .1) i pool start user size (omega (arith, held-most (laneAfter (laneAt s i) (Hold a on n)) (f .good) .1)) (rw (← e) has)
-              ∙ ap (λ (g : List ℕ). g ++ user) (own-kept on n (f .small) (g .0) (g .1) pool),
-          gathered-length marks (next .shape .1) i (stored marks i pool start user) n (stored-length marks i pool start user ∙ size) has,
+              ∙ ap (λ (g : List ℕ). g ++ user) (own-kept on n (f .small) (g .0) (g .1) pool)),
+          joined-length (f .small) e,
         )
+
+    -- a unit has the octets that are told, and they fit
+    pub unit-fits : {octets room : ℕ} → Stepped s i p octets room (Unit a on n) → (length joinedWith ≡ n) × (n ≤ room)
+    unit-fits (ends a on n f e h) = (joined-length (f .small) e, h)
 
 -- the pool stays as long as it is
 pub pool-length : (s : State) (i : ℕ) (p : List ℕ) (room : ℕ) (pool : List ℕ) → length (takingPool s i p room pool) ≡ length pool

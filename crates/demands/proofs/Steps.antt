@@ -1,7 +1,7 @@
 -- What a packet's step obeys in a sound state: what its plan does, and that there is room for the lane beside the others. So the state after it is
 -- sound.
 use Prim.Native.Nat.{ℕ, _+_, _≤_, _<_, max}
-use mathlib.Core.Path.{_≡_, refl, ap, _∙_}
+use mathlib.Core.Path.{_≡_, refl, sym, ap, _∙_}
 use mathlib.Core.Bool.{Bool, true, false, cond}
 use mathlib.Core.List.{List, map}
 use native.Mathlib.Omega.{arith}
@@ -9,6 +9,7 @@ use borrow.Author.Tests.{leb-true}
 use lib.Dec.{leb}
 use lib.ListN.{length, set}
 use lib.Seq.{set-getD}
+use Rattle.octets.proofs.Order.{either}
 use Rattle.pool.specs.Blocks.{blocksFor}
 use Rattle.pool.specs.Matching.{sum}
 use Rattle.lane.specs.declared.Lane.{Lane}
@@ -25,6 +26,8 @@ use Rattle.intake.specs.declared.State.{State}
 use Rattle.intake.specs.State.{laneAt, others, unsound}
 use Rattle.intake.specs.Calls.{settle, packetStep}
 use Rattle.intake.specs.After.{withLane, marksAfter, userOf, answered}
+use Rattle.intake.proofs.Soundness.{then-sound}
+use Rattle.demands.specs.Order.{refusalOf}
 use Rattle.demands.proofs.Lanes.{fine-set, total-set, held-set, held-within}
 use Rattle.demands.proofs.Sound.{Sound, lane-fine, opened-small, room-now, changed, need-open}
 use Rattle.demands.proofs.Marks.{blocksKept, grown-length, emptied, grown-matching}
@@ -35,12 +38,12 @@ pub record Fits (s : State) (i : ℕ) (d : Step) : Type 0 where
   pub good : fine (laneAfter (laneAt s i) d) ≡ true
   pub room : need (laneAfter (laneAt s i) d) + others (s .lanes) i ≤ 64
 
-pub data Stepped (s : State) (i : ℕ) (p : List ℕ) (octets : ℕ) : Step → Type 0 where
-  refuses : (k : ℕ) → (k ≡ 24 → unsound s octets ≡ true) → (k ≡ 19 → ToHold (laneAt s i) p) → Stepped s i p octets (Refuse k)
-  repeats : Stepped s i p octets Repeat
-  strays : (a : Added) → Fits s i (Stray a) → Stepped s i p octets (Stray a)
-  ends : (a : Added) (on : Bool) (n : ℕ) → Fits s i (Unit a on n) → Stepped s i p octets (Unit a on n)
-  holds : (a : Added) (on : Bool) (n : ℕ) → Fits s i (Hold a on n) → n ≡ cond on (laneAt s i .octets) 0 + length (userOf s i p) → Stepped s i p octets (Hold a on n)
+pub data Stepped (s : State) (i : ℕ) (p : List ℕ) (octets room : ℕ) : Step → Type 0 where
+  refuses : (k : ℕ) → (k ≡ 24 → unsound s octets ≡ true) → (k ≡ 19 → ToHold (laneAt s i) p) → Stepped s i p octets room (Refuse k)
+  repeats : Stepped s i p octets room Repeat
+  strays : (a : Added) → Fits s i (Stray a) → Stepped s i p octets room (Stray a)
+  ends : (a : Added) (on : Bool) (n : ℕ) → Fits s i (Unit a on n) → n ≡ cond on (laneAt s i .octets) 0 + length (userOf s i p) → n ≤ room → Stepped s i p octets room (Unit a on n)
+  holds : (a : Added) (on : Bool) (n : ℕ) → Fits s i (Hold a on n) → n ≡ cond on (laneAt s i .octets) 0 + length (userOf s i p) → Stepped s i p octets room (Hold a on n)
 
 module _ (s : State) (k : Sound s) (i : ℕ) (p : List ℕ) (octets room : ℕ) where
   abbrev own : Lane
@@ -51,27 +54,33 @@ module _ (s : State) (k : Sound s) (i : ℕ) (p : List ℕ) (octets room : ℕ) 
   room-empty l o on none share =
       omega (arith, need-open own o, need-open l on, room-now s k i (opened-small s k i o), ap blocksFor none ∙ none-held)
 
-  settled : {d : Plan} → Planned own p room d → Stepped s i p octets (settle (others (s .lanes) i) d)
+  settled : {d : Plan} → Planned own p room d → Stepped s i p octets room (settle (others (s .lanes) i) d)
   unfolding settle laneAfter
   settled (plan.refuses n few h) = refuses n (λ e. absurd (omega arith)) h
   settled plan.repeats = repeats
   settled (plan.strays a o f g) = strays a (record { small = opened-small s k i o; good = g; room = room-empty (laneAfter own (Stray a)) o o refl refl })
   settled (plan.ends a on n o f g e h) = ends a on n (record { small = opened-small s k i o; good = g; room = room-empty (laneAfter own (Unit a on n)) o o refl refl })
+      (omega (arith, accepted-data (own .settings) p f .1)) h
   settled (plan.holds a on n o f g e h t) =
-      of-either (Stepped s i p octets) (leb (max (blocksFor n) (own .settings .share) + others (s .lanes) i) 64)
+      of-either (Stepped s i p octets room) (leb (max (blocksFor n) (own .settings .share) + others (s .lanes) i) 64)
       (λ r. holds a on n (record { small = opened-small s k i o; good = g; room = omega (arith, need-open (laneAfter own (Hold a on n)) o, leb-true (max (blocksFor n) (own .settings .share) + others (s .lanes) i) 64 r) })
       (omega (arith, accepted-data (own .settings) p f .1)))
       (λ r. refuses 19 (λ z. absurd (omega arith)) (λ z. t))
 
-  pub stepped : Stepped s i p octets (packetStep s i p octets room)
+  pub stepped : Stepped s i p octets room (packetStep s i p octets room)
   unfolding packetStep
   stepped =
-      of-either (Stepped s i p octets) (unsound s octets) (λ e. refuses 24 (λ z. e) (λ z. absurd (omega arith)))
+      of-either (Stepped s i p octets room) (unsound s octets) (λ e. refuses 24 (λ z. e) (λ z. absurd (omega arith)))
       (λ e. settled (planned own p room (lane-fine s k i)))
 
 -- a refusal that was given has its reason
-pub refused-why : (s : State) (i : ℕ) (p : List ℕ) (octets n : ℕ) → Stepped s i p octets (Refuse n) → (n ≡ 24 → unsound s octets ≡ true) × (n ≡ 19 → ToHold (laneAt s i) p)
-refused-why s i p octets n (refuses m h t) = (h, t)
+pub refused-why : (s : State) (i : ℕ) (p : List ℕ) (octets room n : ℕ) → Stepped s i p octets room (Refuse n) → (n ≡ 24 → unsound s octets ≡ true) × (n ≡ 19 → ToHold (laneAt s i) p)
+refused-why s i p octets room n (refuses m h t) = (h, t)
+
+-- a step other than 24 was taken with a pool of 16,384 octets
+pub pool-then : (s : State) (i : ℕ) (p : List ℕ) (octets room : ℕ) {d : Step} → packetStep s i p octets room ≡ d → (refusalOf d ≡ 24 → ⊥) → octets ≡ 16384
+unfolding packetStep
+pool-then s i p octets room e other = either (unsound s octets) (λ u. absurd (other (ap refusalOf (sym (simp u at e))))) (λ u. then-sound s octets u .1)
 
 -- ---- the state after a step
 module _ (s : State) (k : Sound s) (i : ℕ) where
@@ -97,13 +106,13 @@ module _ (s : State) (k : Sound s) (i : ℕ) where
       more true e = omega arith
       more false e = omega arith
 
-  pub after-step : (p : List ℕ) (octets : ℕ) {d : Step} → Stepped s i p octets d → Sound (answered s i d .state)
+  pub after-step : (p : List ℕ) (octets room : ℕ) {d : Step} → Stepped s i p octets room d → Sound (answered s i d .state)
   unfolding laneAfter marksAfter
-  after-step p octets (refuses n h t) = stays
-  after-step p octets repeats = stays
-  after-step p octets (strays a f) = emptied s k i (f .small) (laneAfter (laneAt s i) (Stray a)) (f .good) (f .room) refl
-  after-step p octets (ends a on n f) = emptied s k i (f .small) (laneAfter (laneAt s i) (Unit a on n)) (f .good) (f .room) refl
-  after-step p octets (holds a on n f e) =
+  after-step p octets room (refuses n h t) = stays
+  after-step p octets room repeats = stays
+  after-step p octets room (strays a f) = emptied s k i (f .small) (laneAfter (laneAt s i) (Stray a)) (f .good) (f .room) refl
+  after-step p octets room (ends a on n f e h) = emptied s k i (f .small) (laneAfter (laneAt s i) (Unit a on n)) (f .good) (f .room) refl
+  after-step p octets room (holds a on n f e) =
       let g = group-grows a on n (length (userOf s i p)) f e in
       changed s k i (f .small) (laneAfter (laneAt s i) (Hold a on n)) _ (f .good) (f .room) (grown-length (s .marks) i (laneAt s i) on n ∙ k .shape .1)
       (grown-matching s k i (f .small) on n (g .0) (g .1) (sum-after (Hold a on n) f))

@@ -1,8 +1,10 @@
--- A lane's group as the octets that the pool has of it.
-use Prim.Native.Nat.{ℕ}
+-- A lane's group as the octets that the pool has of it, and the places of its blocks.
+use Prim.Native.Nat.{ℕ, _<_}
 use mathlib.Core.Path.{_≡_}
 use mathlib.Core.List.{List}
+use Rattle.pool.specs.Blocks.{mark}
 use Rattle.pool.specs.Octets.{gathered}
+use Rattle.lane.specs.Lane.{held}
 use Rattle.intake.specs.declared.State.{State}
 use Rattle.intake.specs.State.{laneAt}
 
@@ -13,3 +15,11 @@ groupIn s pool j = gathered (s .marks) j pool 0 (laneAt s j .octets)
 pub record Leaves (j : ℕ) (s : State) (pool : List ℕ) (later : State) (laterPool : List ℕ) : Type 0 where
   pub lane : laneAt later j ≡ laneAt s j
   pub group : groupIn later laterPool j ≡ groupIn s pool j
+
+-- the mark of a place that a lane holds
+pub record HeldPlace (s : State) (m : ℕ) : Type 0 where
+  pub lane : ℕ
+  pub place : ℕ
+  pub small : lane < 8
+  pub holds : place < held (laneAt s lane)
+  pub bears : m ≡ mark lane place

@@ -131,7 +131,7 @@ module _ (marks : List ℕ) where
   later-lanes : (i h : ℕ) (held : List ℕ) → AtLeast i (h ∷ held) → AtLeast (i + 1) held
   later-lanes i h held least j l = let e : i + suc j ≡ i + 1 + j = omega arith in rw e at (least (suc j) (omega arith))
 
-  sum-within : (i : ℕ) (held : List ℕ) → AtLeast i held → sum held ≤ laneBlocks marks i (length held)
+  pub sum-within : (i : ℕ) (held : List ℕ) → AtLeast i held → sum held ≤ laneBlocks marks i (length held)
   unfolding sum laneBlocks
   sum-within i [] least = omega arith
   sum-within i (h ∷ held) least = omega (arith, first-lane i h held least, sum-within (i + 1) held (later-lanes i h held least))

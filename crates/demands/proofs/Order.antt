@@ -1,0 +1,144 @@
+-- A packet's step gives the refusal that the one list of tests gives: the plan is followed test by test, and what is left over, the two tests for 19
+-- and the one for 20, fails where the answer isn't of that kind.
+use Prim.Native.Nat.{ℕ, _+_, _≤_, max}
+use mathlib.Core.Path.{_≡_, refl, sym, _∙_}
+use mathlib.Core.Bool.{Bool, true, false, not, _&&_, _||_}
+use mathlib.Core.List.{List, [], _∷_}
+use native.Mathlib.Nat.{zero-add}
+use native.Mathlib.Omega.{arith}
+use borrow.Author.Tests.{leb-true, leb-false, ltb-true, le-ltb, lt-ltb, eqb-true, eqb-false, eq-eqb, ne-eqb, not-false}
+use lib.Dec.{eqb, ltb, leb}
+use Rattle.octets.specs.Order.{_gives_, first}
+use Rattle.octets.proofs.Order.{either}
+use Rattle.packet.specs.Space.{flags, count}
+use Rattle.pool.specs.Blocks.{blocksFor}
+use Rattle.lane.specs.declared.Lane.{Lane}
+use Rattle.lane.specs.declared.Added.{Added}
+use Rattle.lane.specs.declared.Step.the-variants.{Stray}
+use Rattle.lane.specs.declared.Plan.the-variants.{Sure}
+use Rattle.lane.specs.Packets.{fault, userOctets}
+use Rattle.lane.specs.Grouping.{repeats, breaks, goesOn, addedFrom, joined}
+use Rattle.lane.specs.Plans.{holdPlan, unitPlan, groupingPlan, acceptedPlan, packetPlan}
+use Rattle.lane.proofs.Fine.{is-fine}
+use Rattle.lane.proofs.Accepted.{fault-most}
+use Rattle.lane.proofs.Planned.{of-either}
+use Rattle.intake.specs.declared.State.{State}
+use Rattle.intake.specs.State.{laneAt, others, unsound}
+use Rattle.intake.specs.Calls.{settle, packetStep}
+use Rattle.intake.proofs.Soundness.{then-sound}
+use Rattle.demands.specs.Runs.{Shaped}
+use Rattle.demands.specs.Order.{refusalOf, wouldHold, wouldWrite, packetTests}
+use Rattle.demands.proofs.Sound.{Sound, is-sound, lane-fine, opened-small, room-now, need-open}
+
+or-true : (b : Bool) → b || true ≡ true
+or-true true = refl
+or-true false = refl
+
+and-false : (b : Bool) → b && false ≡ false
+and-false true = refl
+and-false false = refl
+
+-- flags 1 and 3 give an open group up
+module _ (l : Lane) (f c : ℕ) where
+  not-first : eqb f 1 ≡ true → goesOn l f c ≡ false
+  unfolding goesOn breaks
+  not-first e = simp (e, or-true, and-false)
+
+  not-unsegmented : eqb f 3 ≡ true → goesOn l f c ≡ false
+  unfolding goesOn breaks
+  not-unsegmented e = simp (e, or-true, and-false)
+
+-- an open lane's share fits beside the others
+share-fits : (s : State) → Sound s → (i : ℕ) → laneAt s i .opened ≡ true → laneAt s i .settings .share + others (s .lanes) i ≤ 64
+share-fits s k i o = omega (arith, need-open (laneAt s i) o, room-now s k i (opened-small s k i o))
+
+-- ---- the last three tests, for a lane l that would hold h beside the others' sum o, and would write u
+module _ (l : Lane) (o room : ℕ) where
+  abbrev Last : ℕ → ℕ → ℕ
+  Last h u =
+      first 0
+      ((ltb (l .settings .cap) h gives 19)
+      ∷ (ltb 64 (max h (l .settings .share) + o) gives 19)
+      ∷ (ltb room u gives 20)
+      ∷ [])
+
+  to-hold : (a : Added) (on : Bool) (n : ℕ) → refusalOf (settle o (holdPlan (l .settings) a on n)) ≡ Last (blocksFor n) 0
+  unfolding holdPlan settle
+  to-hold a on n =
+      let most : ℕ = max (blocksFor n) (l .settings .share) + o in
+      either (ltb (l .settings .cap) (blocksFor n)) (λ e. simp e)
+      (λ e. simp e (either (leb most 64)
+      (λ r. simp (r, le-ltb 64 most (leb-true most 64 r), le-ltb room 0 (omega arith)))
+      (λ r. simp (r, lt-ltb 64 most (leb-false most 64 r)))))
+
+  module _ (fits : l .settings .share + o ≤ 64) where
+    none-to-hold : (u : ℕ) → Last 0 u ≡ first 0 ((ltb room u gives 20) ∷ [])
+    none-to-hold u = simp (le-ltb (l .settings .cap) 0 (omega arith), le-ltb 64 (max 0 (l .settings .share) + o) (omega arith))
+
+    to-end : (a : Added) (on : Bool) (n : ℕ) → refusalOf (settle o (unitPlan room a on n)) ≡ Last 0 n
+    unfolding unitPlan settle
+    to-end a on n = rw (none-to-hold n) (either (ltb room n) (λ e. simp e) (λ e. simp e))
+
+    to-stray : (a : Added) → refusalOf (settle o (Sure (Stray a))) ≡ Last 0 0
+    unfolding settle
+    to-stray a = rw (none-to-hold 0) (simp (le-ltb room 0 (omega arith)))
+
+    module _ (p : List ℕ) where
+      abbrev f : ℕ
+      f = flags p
+
+      abbrev a : Added
+      a = addedFrom l f (count p)
+
+      abbrev user : ℕ
+      user = userOctets (l .settings) p
+
+      not-if : (m n : ℕ) → eqb f m ≡ true → (m ≡ n → ⊥) → eqb f n ≡ false
+      not-if m n e d = ne-eqb f n (λ z. d (sym (eqb-true f m e) ∙ z))
+
+      grouping : refusalOf (settle o (groupingPlan l f (count p) user room)) ≡ Last (wouldHold l p) (wouldWrite l p)
+      unfolding groupingPlan joined wouldHold wouldWrite
+      grouping =
+          either (eqb f 3)
+          (λ e. simp (e, not-if 3 1 e (λ z. omega arith), not-if 3 0 e (λ z. omega arith), not-unsegmented l f (count p) e, zero-add) (to-end a false user))
+          (λ e. either (eqb f 1) (λ g. simp (e, g, not-if 1 2 g (λ z. omega arith), not-first l f (count p) g, zero-add) (to-hold a false user))
+          (λ g. either (goesOn l f (count p))
+          (λ on. either (eqb f 0)
+          (λ h. simp (e, g, h, not-if 0 2 h (λ z. omega arith), on) (to-hold a true (l .octets + user)))
+          (λ h.
+          let ends : eqb f 2 ≡ true = eq-eqb f 2 (omega (arith, eqb-false f 3 e, eqb-false f 1 g, eqb-false f 0 h)) in
+          simp (e, g, h, ends, on) (to-end a true (l .octets + user))))
+          (λ on. simp (e, g, on, and-false) (to-stray a))))
+
+-- ---- all tests
+pub ordered : (s : State) → Shaped s → (i : ℕ) (p : List ℕ) (octets room : ℕ) → refusalOf (packetStep s i p octets room) ≡ first 0 (packetTests s i p octets room)
+unfolding packetStep packetPlan acceptedPlan settle
+ordered s shape i p octets room =
+    let l : Lane = laneAt s i in
+    either (unsound s octets) (λ e. simp e)
+    (λ e. simp e (either (not (l .opened)) (λ a. simp a)
+    (λ a. simp a (either (not (eqb (fault (l .settings) p) 0)) (λ b. simp b)
+    (λ b. simp b (either (repeats l (count p)) (λ c. simp c)
+    (λ c. simp c (either (leb 262144 (l .packets)) (λ d. simp d)
+    (λ d. simp d (grouping l (others (s .lanes) i) room (share-fits s (is-sound s shape (then-sound s octets e .0)) i (not-false _ a)) p))))))))))
+
+-- ---- no test for 19 holds of a lane that would hold no more than its share
+module _ (s : State) (k : Sound s) (i : ℕ) (p : List ℕ) (octets room : ℕ) where
+  abbrev own : Lane
+  own = laneAt s i
+
+  abbrev Not19 : ℕ → Type 0
+  Not19 n = n ≡ 19 → ⊥
+
+  pub room-in-share : wouldHold own p ≤ own .settings .share → Not19 (first 0 (packetTests s i p octets room))
+  room-in-share h =
+      of-either Not19 (unsound s octets) (λ a z. omega arith)
+      (λ a. of-either Not19 (not (own .opened)) (λ b z. omega arith)
+      (λ b.
+      let open′ : own .opened ≡ true = not-false _ b in
+      of-either Not19 (not (eqb (fault (own .settings) p) 0)) (λ c z. omega (arith, fault-most (own .settings) p))
+      (λ c. of-either Not19 (repeats own (count p)) (λ d z. omega arith)
+      (λ d. of-either Not19 (leb 262144 (own .packets)) (λ e z. omega arith)
+      (λ e. of-either Not19 (ltb (own .settings .cap) (wouldHold own p)) (λ f z. omega (arith, ltb-true (own .settings .cap) (wouldHold own p) f, is-fine own (lane-fine s k i) .legal open′ .share))
+      (λ f. of-either Not19 (ltb 64 (max (wouldHold own p) (own .settings .share) + others (s .lanes) i)) (λ g z. omega (arith, ltb-true 64 (max (wouldHold own p) (own .settings .share) + others (s .lanes) i) g, share-fits s k i open′))
+      (λ g. of-either Not19 (ltb room (wouldWrite own p)) (λ j z. omega arith) (λ j z. omega arith))))))))
