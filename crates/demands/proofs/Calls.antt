@@ -9,7 +9,8 @@ use borrow.Author.Tests.{ltb-false, not-false}
 use lib.Dec.{ltb}
 use lib.ListN.{length-set}
 use Rattle.lane.specs.declared.Settings.{Settings}
-use Rattle.lane.specs.Lane.{one, closed, illegal, fine}
+use Rattle.octets.specs.Octets.{one}
+use Rattle.lane.specs.Lane.{closed, illegal, fine}
 use Rattle.lane.proofs.Fine.{Legal, is-legal, is-fine, fine-is}
 use Rattle.lane.proofs.Accepted.{passes}
 use Rattle.lane.proofs.Planned.{none-held}

@@ -11,7 +11,8 @@ use lib.ListN.{length, getD, set, length-set, length-map}
 use lib.Seq.{getD-set-same, set-getD, set-set}
 use Rattle.octets.proofs.Order.{either}
 use Rattle.pool.specs.Blocks.{free, mark, blocksFor, find, granted}
-use Rattle.pool.specs.Matching.{one, count, sum, matching}
+use Rattle.octets.specs.Octets.{one}
+use Rattle.pool.specs.Matching.{count, sum, matching}
 use Rattle.pool.proofs.Leaving.{freed-length, granted-length}
 use Rattle.pool.proofs.Counts.{isOf, freed-is-free}
 use Rattle.pool.proofs.Matched.{Matched, matched, sum-set, matching-freed, matching-granted}

@@ -41,8 +41,8 @@ wouldWrite l p =
 -- Packet to a lane: 24, 11, reading, 12, 13, 14, 15, 16, 17, the repeat test, 18, 19, 20. A lane that would hold h is refused 19 exactly when h
 -- exceeds its cap, or h or its share, the larger, plus the same for every other open lane, exceeds 64
 abbrev pub packetTests : State → ℕ → List ℕ → ℕ → ℕ → List (Test ℕ)
-packetTests s i p octets room =
-    (unsound s octets gives 24)
+packetTests s i p size room =
+    (unsound s size gives 24)
     ∷ (not (laneAt s i .opened) gives 11)
     ∷ (not (eqb (fault (laneAt s i .settings) p) 0) gives fault (laneAt s i .settings) p)
     ∷ (repeats (laneAt s i) (count p) gives 0)

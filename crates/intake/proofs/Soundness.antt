@@ -14,7 +14,8 @@ use Rattle.pool.specs.Blocks.{blocksFor}
 use Rattle.pool.specs.Blocks.{poolOctets}
 use Rattle.pool.specs.Matching.{matching}
 use Rattle.lane.specs.declared.Lane.{Lane}
-use Rattle.lane.specs.Lane.{one, closed, held, illegal, talliesPossible, fine}
+use Rattle.octets.specs.Octets.{one}
+use Rattle.lane.specs.Lane.{closed, held, illegal, talliesPossible, fine}
 use Rattle.intake.specs.declared.State.{State}
 use Rattle.intake.specs.State.{laneAt, total, every, sound, unsound}
 

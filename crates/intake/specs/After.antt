@@ -39,7 +39,7 @@ abbrev pub changed : ℕ → State → State → Changed
 changed refusal new old = record { refusal = refusal; state = unlessRefused refusal new old }
 
 unfoldable pub opening : State → ℕ → Settings → ℕ → Changed
-opening s i settings octets = changed (openingRefusal s i settings octets) (withLane s i (openedWith settings) (s .marks)) s
+opening s i settings size = changed (openingRefusal s i settings size) (withLane s i (openedWith settings) (s .marks)) s
 
 -- ---- closing
 -- the marks without those of the lane's group; a lane without a group has no blocks
@@ -48,14 +48,14 @@ releasedFrom marks i l = cond (l .grouped) (freed marks i) marks
 
 -- Closing gives up an open group (broken + 1), writes the credit record, frees the lane, which is then as at the fresh start
 unfoldable pub closing : State → ℕ → ℕ → ℕ → Changed
-closing s i octets room = changed (closingRefusal s i octets room) (withLane s i closed (releasedFrom (s .marks) i (laneAt s i))) s
+closing s i size room = changed (closingRefusal s i size room) (withLane s i closed (releasedFrom (s .marks) i (laneAt s i))) s
 
 abbrev pub creditOf : Lane → Record
 creditOf l =
     record { station = l .settings .station; apid = l .settings .apid; units = l .units; packets = l .packets; missing = l .missing; broken = brokenWithGroup l }
 
 unfoldable pub closingOut : State → ℕ → ℕ → List ℕ → List ℕ
-closingOut s i octets out = outputAfter (closingRefusal s i octets (length out)) (octetsOf (creditOf (laneAt s i))) out
+closingOut s i size out = outputAfter (closingRefusal s i size (length out)) (octetsOf (creditOf (laneAt s i))) out
 
 -- ---- a packet
 -- a group of n octets takes the blocks that it lacks, after a given-up group's are freed
@@ -110,7 +110,7 @@ abbrev pub userOf : State → ℕ → List ℕ → List ℕ
 userOf s i packet = userData (laneAt s i .settings) packet
 
 unfoldable pub taking : State → ℕ → List ℕ → ℕ → ℕ → Answered
-taking s i packet octets room = answered s i (packetStep s i packet octets room)
+taking s i packet size room = answered s i (packetStep s i packet size room)
 
 unfoldable pub takingPool : State → ℕ → List ℕ → ℕ → List ℕ → List ℕ
 takingPool s i packet room pool =

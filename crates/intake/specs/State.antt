@@ -39,4 +39,4 @@ sound s = every fine (s .lanes) && leb (total (s .lanes)) 64 && matching (s .mar
 
 -- 24: state not sound, or a lent pool not 16,384 octets
 unfoldable pub unsound : State → ℕ → Bool
-unsound s octets = not (sound s && eqb octets poolOctets)
+unsound s size = not (sound s && eqb size poolOctets)

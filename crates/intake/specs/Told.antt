@@ -3,7 +3,7 @@ use Prim.Native.Nat.{ℕ}
 use mathlib.Core.List.{List, [], _∷_}
 use Rattle.lane.specs.declared.Step.{Step}
 use Rattle.lane.specs.declared.Step.the-variants as step
-use Rattle.lane.specs.Lane.{one}
+use Rattle.octets.specs.Octets.{one}
 use Rattle.intake.specs.declared.Answer.{Answer}
 use Rattle.intake.specs.declared.Answer.the-variants as answer
 

@@ -2,7 +2,8 @@
 ghost use mathlib.Core.Path.{_≡_};
 ghost use mathlib.Core.Bool.{true};
 ghost use Prim.Native.Nat.{_<_};
-ghost use Rattle.lane.specs.Lane.{one, fine};
+ghost use Rattle.octets.specs.Octets.{one};
+ghost use Rattle.lane.specs.Lane.{fine};
 ghost use Rattle.intake.specs.After.{creditOf, releasedFrom};
 use lane::Lane;
 use pool::free_blocks;

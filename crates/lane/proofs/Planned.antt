@@ -16,7 +16,8 @@ use Rattle.lane.specs.declared.Added.{Added}
 use Rattle.lane.specs.declared.Step.the-variants.{Refuse, Repeat, Stray, Hold, Unit}
 use Rattle.lane.specs.declared.Plan.{Plan}
 use Rattle.lane.specs.declared.Plan.the-variants.{Sure, Ask}
-use Rattle.lane.specs.Lane.{one, held, fine}
+use Rattle.octets.specs.Octets.{one}
+use Rattle.lane.specs.Lane.{held, fine}
 use Rattle.lane.specs.Packets.{fault, userOctets}
 use Rattle.lane.specs.Grouping.{missingBefore, breaks, givesUp, goesOn, addedFrom, joined}
 use Rattle.lane.specs.Grouping as rule

@@ -6,7 +6,7 @@ use native.Mathlib.Nat.{add-assoc}
 use native.Mathlib.Omega.{arith}
 use lib.Dec.{leb}
 use borrow.Author.Tests.{leb-true, le-leb}
-use Rattle.lane.specs.Lane.{one}
+use Rattle.octets.specs.Octets.{one}
 use Rattle.record.specs.Record.{mostMissing, possible}
 
 -- a test w that implies z can stand in its place

@@ -2,14 +2,11 @@
 use Prim.Native.Nat.{ℕ, _+_, max}
 use mathlib.Core.Bool.{Bool, false, cond, not, _&&_, _||_}
 use lib.Dec.{eqb, ltb, leb}
+use Rattle.octets.specs.Octets.{one}
 use Rattle.pool.specs.Blocks.{blocksFor}
 use Rattle.record.specs.Record.{possible}
 use Rattle.lane.specs.declared.Settings.{Settings}
 use Rattle.lane.specs.declared.Lane.{Lane}
-
--- 1 for yes, 0 for no
-unfoldable pub one : Bool → ℕ
-one b = cond b 1 0
 
 abbrev pub unset : Settings
 unset = record { station = 0; apid = 0; secondary = 0; share = 0; cap = 0 }

@@ -5,7 +5,7 @@ use Rattle.lane.specs.declared.Lane.{Lane}
 use Rattle.lane.specs.declared.Added.{Added}
 use Rattle.lane.specs.declared.Step.{Step}
 use Rattle.lane.specs.declared.Step.the-variants.{Refuse, Repeat, Stray, Hold, Unit}
-use Rattle.lane.specs.Lane.{one}
+use Rattle.octets.specs.Octets.{one}
 
 -- The packet tally grows by 1, missing is added, broken and units grow where a group is given up and for a unit, last becomes the count; and
 -- then the group

@@ -5,7 +5,8 @@ mod packets;
 
 ghost use mathlib.Core.Path.{_≡_};
 ghost use Prim.Native.Nat.{_≤_, max};
-ghost use Rattle.lane.specs.Lane.{one, need, illegal, talliesPossible, fine};
+ghost use Rattle.octets.specs.Octets.{one};
+ghost use Rattle.lane.specs.Lane.{need, illegal, talliesPossible, fine};
 ghost use Rattle.lane.specs.Plans.{refusing, packetPlan};
 use grouping::plan_accepted;
 use packet::Packet;

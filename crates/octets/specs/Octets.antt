@@ -1,5 +1,6 @@
 -- Numbers in a list of octets, the highest octet first. Past the end an octet reads as 0.
 use Prim.Native.Nat.{ℕ, _+_, _*_, _/_, _%_, _<_}
+use mathlib.Core.Bool.{Bool, cond}
 use mathlib.Core.List.{List, [], _∷_, _++_}
 use lib.ListN.{getD}
 
@@ -18,6 +19,10 @@ octets2 n = (n / 256 % 256) ∷ (n % 256) ∷ []
 
 abbrev pub octets4 : ℕ → List ℕ
 octets4 n = octets2 (n / 65536) ++ octets2 (n % 65536)
+
+-- 1 for yes, 0 for no
+unfoldable pub one : Bool → ℕ
+one b = cond b 1 0
 
 -- every element is an octet, as those of every slice of u8 are
 abbrev pub AreOctets : List ℕ → Type 0

@@ -10,7 +10,8 @@ use borrow.Author.Tests.{eq-eqb, ne-eqb}
 use lib.Dec.{eqb}
 use lib.ListN.{length, getD, set, length-set}
 use Rattle.pool.specs.Blocks.{free, find, granted, freed}
-use Rattle.pool.specs.Matching.{one, count, isFree}
+use Rattle.octets.specs.Octets.{one}
+use Rattle.pool.specs.Matching.{count, isFree}
 use Rattle.pool.proofs.Finding.{by-case, at-front, past-front, bears}
 use Rattle.pool.proofs.Leaving.{freed-own, freed-other, find-granted}
 

@@ -10,7 +10,8 @@ use borrow.Author.Tests.{le-leb, lt-leb, lt-ltb, le-ltb, eq-eqb, ne-eqb}
 use lib.ListN.{length, getD, set, drop, drop-of-length-le}
 use lib.Seq.{drop-cons, getD-set-same, getD-set-other}
 use Rattle.pool.specs.Blocks.{free, find}
-use Rattle.pool.specs.Matching.{found, holds, eachHolds, one, count, isFree, sum, matching}
+use Rattle.octets.specs.Octets.{one}
+use Rattle.pool.specs.Matching.{found, holds, eachHolds, count, isFree, sum, matching}
 use Rattle.pool.proofs.Finding.{by-case, is-here, is-later}
 
 -- ---- the table: the blocks from `block` on are in it

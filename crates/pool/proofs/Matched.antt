@@ -13,7 +13,8 @@ use lib.ListN.{length, getD, set, replicate, length-set}
 use lib.Seq.{getD-set-same, getD-set-other}
 use Rattle.octets.proofs.Order.{both}
 use Rattle.pool.specs.Blocks.{mark, blocksFor, find, granted, freed}
-use Rattle.pool.specs.Matching.{found, holds, eachHolds, one, count, isFree, sum, matching}
+use Rattle.octets.specs.Octets.{one}
+use Rattle.pool.specs.Matching.{found, holds, eachHolds, count, isFree, sum, matching}
 use Rattle.pool.proofs.Finding.{by-case}
 use Rattle.pool.proofs.Apart.{Has}
 use Rattle.pool.proofs.Leaving.{freed-length, freed-leaves, granted-length, granted-leaves, granted-leaves-own}

@@ -11,7 +11,8 @@ use borrow.Author.Tests.{lt-ltb, le-ltb}
 use lib.Dec.{eqb, ltb}
 use lib.ListN.{length, getD}
 use Rattle.pool.specs.Blocks.{free, mark, find}
-use Rattle.pool.specs.Matching.{one, count, isFree, sum}
+use Rattle.octets.specs.Octets.{one}
+use Rattle.pool.specs.Matching.{count, isFree, sum}
 use Rattle.pool.proofs.Finding.{by-case, past-front}
 use Rattle.pool.proofs.Looking.{one-at-most, count-at-most}
 use Rattle.pool.proofs.Counts.{isOf, counts-one, counts-none}

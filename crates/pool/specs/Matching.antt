@@ -1,9 +1,10 @@
 -- When the marks match what the lanes hold: every place that a lane holds has its block, and the free blocks and the held ones are 64 in all.
 -- Places are different marks, so they lie on different blocks; with the free ones these are all 64, so no block is held twice or by no lane.
 use Prim.Native.Nat.{ℕ, zero, suc, _+_}
-use mathlib.Core.Bool.{Bool, true, cond, _&&_}
+use mathlib.Core.Bool.{Bool, true, _&&_}
 use mathlib.Core.List.{List, [], _∷_}
 use lib.Dec.{eqb, leb, ltb}
+use Rattle.octets.specs.Octets.{one}
 use Rattle.pool.specs.Blocks.{free, mark, find}
 
 -- each of the marks m, m + 1, .., n of them, is on one of the 64 blocks
@@ -19,10 +20,6 @@ holds marks lane n = leb n 64 && found marks (mark lane 0) n
 unfoldable pub eachHolds : List ℕ → ℕ → List ℕ → Bool
 eachHolds marks lane [] = true
 eachHolds marks lane (n ∷ held) = holds marks lane n && eachHolds marks (lane + 1) held
-
--- 1 for yes, 0 for no
-unfoldable pub one : Bool → ℕ
-one b = cond b 1 0
 
 -- how many marks pass a test
 unfoldable pub count : (ℕ → Bool) → List ℕ → ℕ

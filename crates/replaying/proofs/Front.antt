@@ -10,7 +10,7 @@ use Rattle.intake.specs.declared.State.{State}
 use Rattle.intake.specs.declared.Changed.{Changed}
 use Rattle.intake.specs.declared.Answered.{Answered}
 use Rattle.replaying.specs.Calls.{packetOctets}
-use Rattle.replaying.specs.Running.{roomIn, taken, closed, ran, poolAfter, outAfter}
+use Rattle.replaying.specs.Running.{roomIn, taken, closed, ran, callPool, callOut}
 use Rattle.replaying.specs.declared.Call.the-variants.{Packet, Closing}
 
 -- room is the smaller of the space asked for and the output's octets, as the code has it
@@ -20,8 +20,8 @@ module _ (state : State) (lane space : ℕ) (s pool out : List ℕ) (room : ℕ)
 
   pub closing-done : {r : Changed} {out′ : List ℕ}
       → r ≡ closing state lane (length pool) (length (take room out)) → out′ ≡ closingOut state lane (length pool) (take room out)
-      → (closed lane r ≡ ran state s pool out (Closing lane space)) × (out′ ++ drop room out ≡ outAfter state s pool out (Closing lane space))
-  unfolding ran outAfter
+      → (closed lane r ≡ ran state s pool out (Closing lane space)) × (out′ ++ drop room out ≡ callOut state s pool out (Closing lane space))
+  unfolding ran callOut
   closing-done f g = rw (f, g, front, e) (refl, refl)
 
   module _ (n : ℕ) where
@@ -33,6 +33,6 @@ module _ (state : State) (lane space : ℕ) (s pool out : List ℕ) (room : ℕ)
         → pool′ ≡ takingPool state lane (take (10 + n - 10) (drop 10 s)) (length (take room out)) pool
         → out′ ≡ takingOut state lane (take (10 + n - 10) (drop 10 s)) pool (take room out)
         → (taken lane r ≡ ran state s pool out (Packet lane space n))
-        × ((pool′ ≡ poolAfter state s pool out (Packet lane space n)) × (out′ ++ drop room out ≡ outAfter state s pool out (Packet lane space n)))
-    unfolding ran poolAfter outAfter
+        × ((pool′ ≡ callPool state s pool out (Packet lane space n)) × (out′ ++ drop room out ≡ callOut state s pool out (Packet lane space n)))
+    unfolding ran callPool callOut
     taking-done f g h = rw (f, g, h, lent, front, e) (refl, (refl, refl))

@@ -11,7 +11,7 @@ use Rattle.octets.specs.Octets.{octet, be32}
 use Rattle.octets.proofs.Order.{either, neither, both}
 use Rattle.text.specs.Text.{ascii}
 use Rattle.replaying.specs.Calls.{openingIn, packetIn, closingIn, callIn, callSize}
-use Rattle.replaying.specs.Running.{ran, poolAfter, outAfter}
+use Rattle.replaying.specs.Running.{ran, callPool, callOut}
 use Rattle.replaying.specs.Lines.{lineOf, lastLines, lineRoom, Lined}
 use Rattle.replaying.specs.Run.{Standing, standing, finished, longest, call, stops, next, nextText, ready, stepsLeft}
 use Rattle.replaying.specs.declared.Call.{Call}
@@ -35,8 +35,8 @@ module _ (s : List ℕ) (w : Standing) where
 
     pub called : (size ≡ 0 → ⊥) → (r : Ran) (pool out : List ℕ)
         → r ≡ ran (w .progress .state) (drop (w .progress .at) s) (w .pool) (w .out) cl
-        → pool ≡ poolAfter (w .progress .state) (drop (w .progress .at) s) (w .pool) (w .out) cl
-        → out ≡ outAfter (w .progress .state) (drop (w .progress .at) s) (w .pool) (w .out) cl
+        → pool ≡ callPool (w .progress .state) (drop (w .progress .at) s) (w .pool) (w .out) cl
+        → out ≡ callOut (w .progress .state) (drop (w .progress .at) s) (w .pool) (w .out) cl
         → (standing (record { at = w .progress .at + size; calls = w .progress .calls + 1; done = false; state = r .state }) pool out ≡ next s w)
         × (lineOf (w .progress .at) (r .outcome) out ≡ nextText s w)
     unfolding next nextText stops

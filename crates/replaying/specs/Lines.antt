@@ -8,7 +8,7 @@ use lib.ListN.{length, take}
 use Rattle.octets.specs.Output.{put}
 use Rattle.text.specs.Text.{ascii, decimal, numbers}
 use Rattle.record.specs.Record.{fieldsIn}
-use Rattle.lane.specs.Lane.{one}
+use Rattle.octets.specs.Octets.{one}
 use Rattle.intake.specs.declared.Answer.{Answer}
 use Rattle.intake.specs.declared.Answer.the-variants.{Refused, Repeat, Stray, Held, Unit}
 use Rattle.replaying.specs.Adler.{adler}

@@ -7,7 +7,7 @@ use lib.ListN.{length, drop, replicate}
 use Rattle.text.specs.Text.{ascii}
 use Rattle.intake.specs.State.{freshState}
 use Rattle.replaying.specs.Calls.{callAt, callSize}
-use Rattle.replaying.specs.Running.{ran, poolAfter, outAfter}
+use Rattle.replaying.specs.Running.{ran, callPool, callOut}
 use Rattle.replaying.specs.Lines.{lineOf, lastLines, lineRoom}
 use Rattle.replaying.specs.declared.Call.{Call}
 use Rattle.replaying.specs.declared.Ran.{Ran}
@@ -43,10 +43,10 @@ module _ (s : List ℕ) (w : Standing) where
   told = ran (w .progress .state) ahead (w .pool) (w .out) call
 
   abbrev pub nextOut : List ℕ
-  nextOut = outAfter (w .progress .state) ahead (w .pool) (w .out) call
+  nextOut = callOut (w .progress .state) ahead (w .pool) (w .out) call
 
   abbrev pub nextPool : List ℕ
-  nextPool = poolAfter (w .progress .state) ahead (w .pool) (w .out) call
+  nextPool = callPool (w .progress .state) ahead (w .pool) (w .out) call
 
   -- the next step is the last one: the file is too long, or it has no whole call here
   unfoldable pub stops : Bool

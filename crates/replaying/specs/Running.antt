@@ -32,16 +32,16 @@ ran state s pool out (Packet lane space n) = taken lane (taking state lane (pack
 ran state s pool out (Closing lane space) = closed lane (closing state lane (length pool) (roomIn space out))
 ran state s pool out Bad = record { outcome = Stopped; state = state }
 
-unfoldable pub poolAfter : State → List ℕ → List ℕ → List ℕ → Call → List ℕ
-poolAfter state s pool out (Opening lane settings) = pool
-poolAfter state s pool out (Packet lane space n) = takingPool state lane (packetOctets s n) (roomIn space out) pool
-poolAfter state s pool out (Closing lane space) = pool
-poolAfter state s pool out Bad = pool
+unfoldable pub callPool : State → List ℕ → List ℕ → List ℕ → Call → List ℕ
+callPool state s pool out (Opening lane settings) = pool
+callPool state s pool out (Packet lane space n) = takingPool state lane (packetOctets s n) (roomIn space out) pool
+callPool state s pool out (Closing lane space) = pool
+callPool state s pool out Bad = pool
 
-unfoldable pub outAfter : State → List ℕ → List ℕ → List ℕ → Call → List ℕ
-outAfter state s pool out (Opening lane settings) = out
-outAfter state s pool out (Packet lane space n) =
+unfoldable pub callOut : State → List ℕ → List ℕ → List ℕ → Call → List ℕ
+callOut state s pool out (Opening lane settings) = out
+callOut state s pool out (Packet lane space n) =
     takingOut state lane (packetOctets s n) pool (take (roomIn space out) out) ++ drop (roomIn space out) out
-outAfter state s pool out (Closing lane space) =
+callOut state s pool out (Closing lane space) =
     closingOut state lane (length pool) (take (roomIn space out) out) ++ drop (roomIn space out) out
-outAfter state s pool out Bad = out
+callOut state s pool out Bad = out

@@ -3,7 +3,7 @@ ghost use mathlib.Core.Path.{_≡_};
 ghost use Prim.Native.Nat.{_≤_, min};
 ghost use lib.ListN.{length};
 ghost use Rattle.replaying.specs.Calls.{callSize};
-ghost use Rattle.replaying.specs.Running.{ran, poolAfter, outAfter};
+ghost use Rattle.replaying.specs.Running.{ran, callPool, callOut};
 ghost use Rattle.replaying.specs.declared.Call.the-variants.{Packet, Closing};
 use crate::Call;
 use crate::Outcome;
@@ -31,8 +31,8 @@ fn run_packet(
 ) -> Ran
     requires { ⌜ callSize (Packet lane space octets) ≤ length (now s) ⌝ }
     ensures { λ r. ⌜ r ≡ ran state (now (s .entry)) (now (pool .entry)) (now (out .entry)) (Packet lane space octets) ⌝ }
-    ensures { λ _. ⌜ now (pool .exit) ≡ poolAfter state (now (s .entry)) (now (pool .entry)) (now (out .entry)) (Packet lane space octets) ⌝ }
-    ensures { λ _. ⌜ now (out .exit) ≡ outAfter state (now (s .entry)) (now (pool .entry)) (now (out .entry)) (Packet lane space octets) ⌝ }
+    ensures { λ _. ⌜ now (pool .exit) ≡ callPool state (now (s .entry)) (now (pool .entry)) (now (out .entry)) (Packet lane space octets) ⌝ }
+    ensures { λ _. ⌜ now (out .exit) ≡ callOut state (now (s .entry)) (now (pool .entry)) (now (out .entry)) (Packet lane space octets) ⌝ }
 {
     let room = smaller(space as usize, out.len());
     let end = 10 + octets as usize;
@@ -47,7 +47,7 @@ fn run_packet(
 
 fn run_closing(state: State, s: &[u8], lane: u8, space: u32, pool: &[u8], out: &mut [u8]) -> Ran
     ensures { λ r. ⌜ r ≡ ran state (now (s .entry)) (now (pool .entry)) (now (out .entry)) (Closing lane space) ⌝ }
-    ensures { λ _. ⌜ now (out .exit) ≡ outAfter state (now (s .entry)) (now (pool .entry)) (now (out .entry)) (Closing lane space) ⌝ }
+    ensures { λ _. ⌜ now (out .exit) ≡ callOut state (now (s .entry)) (now (pool .entry)) (now (out .entry)) (Closing lane space) ⌝ }
 {
     let room = smaller(space as usize, out.len());
     let changed = close_lane(state, lane as usize, pool, &mut out[..room]);
@@ -65,8 +65,8 @@ fn run_closing(state: State, s: &[u8], lane: u8, space: u32, pool: &[u8], out: &
 pub(crate) fn run_call(state: State, s: &[u8], call: Call, pool: &mut [u8], out: &mut [u8]) -> Ran
     requires { ⌜ callSize call ≤ length (now s) ⌝ }
     ensures { λ r. ⌜ r ≡ ran state (now (s .entry)) (now (pool .entry)) (now (out .entry)) call ⌝ }
-    ensures { λ _. ⌜ now (pool .exit) ≡ poolAfter state (now (s .entry)) (now (pool .entry)) (now (out .entry)) call ⌝ }
-    ensures { λ _. ⌜ now (out .exit) ≡ outAfter state (now (s .entry)) (now (pool .entry)) (now (out .entry)) call ⌝ }
+    ensures { λ _. ⌜ now (pool .exit) ≡ callPool state (now (s .entry)) (now (pool .entry)) (now (out .entry)) call ⌝ }
+    ensures { λ _. ⌜ now (out .exit) ≡ callOut state (now (s .entry)) (now (pool .entry)) (now (out .entry)) call ⌝ }
 {
     match call {
         Call::Opening { lane, settings } => {

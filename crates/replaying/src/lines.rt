@@ -2,7 +2,7 @@
 ghost use mathlib.Core.Path.{_≡_};
 ghost use Prim.Native.Nat.{_+_, _≤_};
 ghost use lib.ListN.{length, take};
-ghost use Rattle.lane.specs.Lane.{one};
+ghost use Rattle.octets.specs.Octets.{one};
 ghost use Rattle.text.specs.Written.{reached, written};
 ghost use Rattle.replaying.specs.Adler.{adler};
 ghost use Rattle.replaying.specs.Lines.{line, packetLine, recordLine, badLine, lineOf, endLine, lastLines, lineRoom, Lined};

@@ -1,4 +1,4 @@
-use Rattle.lane.specs.Lane.{one}
+use Rattle.octets.specs.Octets.{one}
 use Rattle.lane.proofs.one_if.Statement.{statement}
 use Rattle.lane.proofs.one_if.Tie as tie
 

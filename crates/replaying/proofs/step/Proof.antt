@@ -8,7 +8,7 @@ use lib.ListN.{length, take, drop, length-drop}
 use lib.Seq.{take-all}
 use Rattle.text.specs.Text.{ascii}
 use Rattle.replaying.specs.Calls.{callIn, callSize}
-use Rattle.replaying.specs.Running.{ran, poolAfter, outAfter}
+use Rattle.replaying.specs.Running.{ran, callPool, callOut}
 use Rattle.replaying.specs.Lines.{lastLines}
 use Rattle.replaying.specs.Run.{standing}
 use Rattle.intake.specs.declared.State.{State}
@@ -38,7 +38,7 @@ fits-ahead c =
 -- what `run_call` promises
 abbrev Ran-is : State → List ℕ → List ℕ → List ℕ → Call → Ran → List ℕ → List ℕ → Type 0
 Ran-is state s pool out cl r pool′ out′ =
-    (r ≡ ran state s pool out cl) × ((pool′ ≡ poolAfter state s pool out cl) × (out′ ≡ outAfter state s pool out cl))
+    (r ≡ ran state s pool out cl) × ((pool′ ≡ callPool state s pool out cl) × (out′ ≡ callOut state s pool out cl))
 
 returns : tie.Need-returns
 returns c =

@@ -1,6 +1,6 @@
 -- The test in the code is the test in `isFree`.
 use borrow.Author.Tests.{eq-eqb, ne-eqb}
-use Rattle.pool.specs.Matching.{one}
+use Rattle.octets.specs.Octets.{one}
 use Rattle.pool.proofs.table.one_if_free.Statement.{statement}
 use Rattle.pool.proofs.table.one_if_free.Tie as tie
 

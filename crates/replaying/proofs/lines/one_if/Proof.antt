@@ -1,5 +1,5 @@
 -- Each branch is a case of `one`.
-use Rattle.lane.specs.Lane.{one}
+use Rattle.octets.specs.Octets.{one}
 use Rattle.replaying.proofs.lines.one_if.Statement.{statement}
 use Rattle.replaying.proofs.lines.one_if.Tie as tie
 
