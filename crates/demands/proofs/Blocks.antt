@@ -5,13 +5,13 @@ use mathlib.Core.Path.{_≡_, refl, _∙_}
 use mathlib.Core.List.{List, [], _∷_, map}
 use mathlib.Core.Logic.{_⊎_, inl, inr}
 use native.Mathlib.Decide.{decLt}
-use native.Mathlib.Nat.{add-zero, zero-add}
+use native.Mathlib.Nat.{zero-add}
 use native.Mathlib.Omega.{arith}
 use lib.ListN.{length, getD, set, length-set, length-map}
 use Rattle.pool.specs.Blocks.{free, mark, find}
 use Rattle.pool.specs.Matching.{count, isFree, sum}
 use Rattle.pool.proofs.Finding.{by-case, at-front, past-front}
-use Rattle.pool.proofs.Counts.{isOf, counts-one, counts-none}
+use Rattle.pool.proofs.Counts.{counts-one, counts-none}
 use Rattle.pool.proofs.Sums.{places-within, laneBlocks, lanes-within, AtLeast, sum-within}
 use Rattle.pool.proofs.Matched.{Matched, matched}
 use Rattle.lane.specs.Lane.{held}

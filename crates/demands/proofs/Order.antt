@@ -2,9 +2,8 @@
 -- and the one for 20, fails where the answer isn't of that kind.
 use Prim.Native.Nat.{ℕ, _+_, _≤_, max}
 use mathlib.Core.Path.{_≡_, refl, sym, _∙_}
-use mathlib.Core.Bool.{Bool, true, false, not, _&&_, _||_}
+use mathlib.Core.Bool.{Bool, true, false, not, _&&_}
 use mathlib.Core.List.{List, [], _∷_}
-use native.Mathlib.Nat.{zero-add}
 use native.Mathlib.Omega.{arith}
 use borrow.Author.Tests.{leb-true, leb-false, ltb-true, le-ltb, lt-ltb, eqb-true, eqb-false, eq-eqb, ne-eqb, not-false}
 use lib.Dec.{eqb, ltb, leb}
@@ -17,7 +16,7 @@ use Rattle.lane.specs.declared.Added.{Added}
 use Rattle.lane.specs.declared.Step.the-variants.{Stray}
 use Rattle.lane.specs.declared.Plan.the-variants.{Sure}
 use Rattle.lane.specs.Packets.{fault, userOctets}
-use Rattle.lane.specs.Grouping.{repeats, breaks, goesOn, addedFrom, joined}
+use Rattle.lane.specs.Grouping.{repeats, goesOn, addedFrom}
 use Rattle.lane.specs.Plans.{holdPlan, unitPlan, groupingPlan, acceptedPlan, packetPlan}
 use Rattle.lane.proofs.Fine.{is-fine}
 use Rattle.lane.proofs.Accepted.{fault-most}
@@ -30,23 +29,9 @@ use Rattle.demands.specs.Runs.{Shaped}
 use Rattle.demands.specs.Order.{refusalOf, wouldHold, wouldWrite, packetTests}
 use Rattle.demands.proofs.Sound.{Sound, is-sound, lane-fine, opened-small, room-now, need-open}
 
-or-true : (b : Bool) → b || true ≡ true
-or-true true = refl
-or-true false = refl
-
 and-false : (b : Bool) → b && false ≡ false
 and-false true = refl
 and-false false = refl
-
--- flags 1 and 3 give an open group up
-module _ (l : Lane) (f c : ℕ) where
-  not-first : eqb f 1 ≡ true → goesOn l f c ≡ false
-  unfolding goesOn breaks
-  not-first e = simp (e, or-true, and-false)
-
-  not-unsegmented : eqb f 3 ≡ true → goesOn l f c ≡ false
-  unfolding goesOn breaks
-  not-unsegmented e = simp (e, or-true, and-false)
 
 -- an open lane's share fits beside the others
 share-fits : (s : State) → Sound s → (i : ℕ) → laneAt s i .opened ≡ true → laneAt s i .settings .share + others (s .lanes) i ≤ 64
@@ -97,11 +82,11 @@ module _ (l : Lane) (o room : ℕ) where
       not-if m n e d = ne-eqb f n (λ z. d (sym (eqb-true f m e) ∙ z))
 
       grouping : refusalOf (settle o (groupingPlan l f (count p) user room)) ≡ Last (wouldHold l p) (wouldWrite l p)
-      unfolding groupingPlan joined wouldHold wouldWrite
+      unfolding groupingPlan wouldHold wouldWrite
       grouping =
           either (eqb f 3)
-          (λ e. simp (e, not-if 3 1 e (λ z. omega arith), not-if 3 0 e (λ z. omega arith), not-unsegmented l f (count p) e, zero-add) (to-end a false user))
-          (λ e. either (eqb f 1) (λ g. simp (e, g, not-if 1 2 g (λ z. omega arith), not-first l f (count p) g, zero-add) (to-hold a false user))
+          (λ e. simp (e, not-if 3 1 e (λ z. omega arith), not-if 3 0 e (λ z. omega arith)) (to-end a false user))
+          (λ e. either (eqb f 1) (λ g. simp (e, g, not-if 1 2 g (λ z. omega arith)) (to-hold a false user))
           (λ g. either (goesOn l f (count p))
           (λ on. either (eqb f 0)
           (λ h. simp (e, g, h, not-if 0 2 h (λ z. omega arith), on) (to-hold a true (l .octets + user)))

@@ -13,7 +13,7 @@ use Rattle.octets.proofs.Order.{both}
 use Rattle.pool.specs.Matching.{matching}
 use Rattle.pool.proofs.Matched.{matching-fresh}
 use Rattle.lane.specs.declared.Lane.{Lane}
-use Rattle.lane.specs.Lane.{closed, held, need, fine}
+use Rattle.lane.specs.Lane.{held, need, fine}
 use Rattle.lane.proofs.Planned.{of-either, none-held}
 use Rattle.intake.specs.declared.State.{State}
 use Rattle.intake.specs.State.{freshState, laneAt, total, others, every, sound, unsound}

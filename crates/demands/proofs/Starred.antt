@@ -5,11 +5,10 @@ use Rattle.packet.specs.Reading.{header, size, readingTests, refusal, fields, r
 use Rattle.record.specs.Record.{possible}
 use Rattle.pool.specs.Blocks.{blocksFor, find}
 use Rattle.pool.specs.Matching.{found, holds, eachHolds, count, sum, matching}
-use Rattle.pool.specs.Matching as matching
 use Rattle.octets.specs.Octets.{one}
 use Rattle.lane.specs.Lane.{need, illegal, talliesPossible, fine}
 use Rattle.lane.specs.Packets.{fault}
-use Rattle.lane.specs.Grouping.{repeats, missingBefore, breaks, givesUp, goesOn, joined}
+use Rattle.lane.specs.Grouping.{repeats, missingBefore, breaks, givesUp, goesOn}
 use Rattle.lane.specs.Plans.{unitPlan, groupingPlan, acceptedPlan, packetPlan}
 use Rattle.lane.specs.Steps.{laneAfter}
 use Rattle.intake.specs.State.{freshState, total, others, every, sound, unsound}
@@ -19,5 +18,5 @@ use Rattle.demands.specs.Runs.{after, run}
 use Rattle.demands.specs.Starred.{given, starred}
 
 pub as-the-paper-says : map given starred ≡ starred
-unfolding header size readingTests refusal fields reading content possible blocksFor find found holds eachHolds count sum matching one need illegal talliesPossible fine fault repeats missingBefore breaks givesUp goesOn joined unitPlan groupingPlan acceptedPlan packetPlan laneAfter freshState total others every sound unsound openingRefusal settle packetStep opening taking releasedFrom marksAfter after run
+unfolding header size readingTests refusal fields reading content possible blocksFor find found holds eachHolds count sum matching one need illegal talliesPossible fine fault repeats missingBefore breaks givesUp goesOn unitPlan groupingPlan acceptedPlan packetPlan laneAfter freshState total others every sound unsound openingRefusal settle packetStep opening taking releasedFrom marksAfter after run
 as-the-paper-says = refl

@@ -31,9 +31,9 @@ unfoldable pub every : (Lane → Bool) → List Lane → Bool
 every p [] = true
 every p (l ∷ ls) = p l && every p ls
 
--- A state is sound when each lane by itself is (open lanes' settings are legal, its octets' blocks are within its cap, a closed lane holds
--- nothing, last is at most 16,383, and the tallies, counting an open group as broken, form a possible record), that sum is at most 64, and each
--- lane's blocks match its octets with no block held twice.
+-- A state is sound when each lane by itself is (an open lane's settings are legal, the blocks of its octets are within its cap, a closed lane
+-- holds nothing, last is at most 16,383, and the tallies, counting an open group as broken, form a possible record), that sum is at most 64, and
+-- each lane's blocks match its octets with no block held twice.
 unfoldable pub sound : State → Bool
 sound s = every fine (s .lanes) && leb (total (s .lanes)) 64 && matching (s .marks) (map held (s .lanes))
 

@@ -5,6 +5,7 @@ use mathlib.Core.Path.{_≡_, refl, sym, _∙_}
 use mathlib.Core.Bool.{Bool, true, false, cond, not, _&&_, true≢false}
 use mathlib.Core.List.{List}
 use mathlib.Core.Logic.{_⊎_, inl, inr}
+use native.Mathlib.Nat.{zero-add}
 use native.Mathlib.Omega.{arith}
 use borrow.Author.Tests.{eqb-true, eqb-false, ltb-false, leb-false, not-false}
 use lib.Dec.{eqb, ltb, leb}
@@ -19,7 +20,7 @@ use Rattle.lane.specs.declared.Plan.the-variants.{Sure, Ask}
 use Rattle.octets.specs.Octets.{one}
 use Rattle.lane.specs.Lane.{held, fine}
 use Rattle.lane.specs.Packets.{fault, userOctets}
-use Rattle.lane.specs.Grouping.{missingBefore, breaks, givesUp, goesOn, addedFrom, joined}
+use Rattle.lane.specs.Grouping.{missingBefore, breaks, givesUp, goesOn, addedFrom}
 use Rattle.lane.specs.Grouping as rule
 use Rattle.lane.specs.Plans.{holdPlan, unitPlan, groupingPlan, acceptedPlan, packetPlan}
 use Rattle.lane.specs.Steps.{counted, laneAfter}
@@ -94,15 +95,11 @@ module _ (l : Lane) (s : List ℕ) (room : ℕ) (is : Fine l) where
   abbrev on : Bool
   on = goesOn l (flags s) (count s)
 
-  abbrev n : ℕ
-  n = joined l (flags s) (count s) (userOctets (l .settings) s)
+  abbrev user : ℕ
+  user = userOctets (l .settings) s
 
   refused : (k : ℕ) → k ≤ 18 → Obeys (Sure (Refuse k))
   refused k h = refuses k (omega arith) (λ e. absurd (omega arith))
-
-  joined-is : n ≡ cond on (l .octets) 0 + userOctets (l .settings) s
-  unfolding joined
-  joined-is = refl
 
   on-grouped : on ≡ true → l .grouped ≡ true
   unfolding goesOn
@@ -113,29 +110,31 @@ module _ (l : Lane) (s : List ℕ) (room : ℕ) (is : Fine l) where
         → fine (counted l added units grouped k) ≡ true
     after = counted-fine l (flags s) (count s) is open′ new few (omega arith)
 
-    to-hold : ToHold l s → Obeys (holdPlan (l .settings) added on n)
+    to-hold : (on : Bool) (n : ℕ) → n ≡ cond on (l .octets) 0 + user → (on ≡ true → l .grouped ≡ true) → ToHold l s → Obeys (holdPlan (l .settings) added on n)
     unfolding holdPlan one laneAfter
-    to-hold h =
+    to-hold on n is-joined grouped h =
         of-either Obeys (ltb (l .settings .cap) (blocksFor n)) (λ e. refuses 19 (omega arith) (λ z. h))
-        (λ e. holds added on n open′ good (after 0 true n (omega arith) (ltb-false _ _ e) (λ z. absurd (true≢false z))) joined-is on-grouped h)
+        (λ e. holds added on n open′ good (after 0 true n (omega arith) (ltb-false _ _ e) (λ z. absurd (true≢false z))) is-joined grouped h)
 
-    to-end : Obeys (unitPlan room added on n)
+    to-end : (on : Bool) (n : ℕ) → n ≡ cond on (l .octets) 0 + user → Obeys (unitPlan room added on n)
     unfolding unitPlan one laneAfter blocksFor
-    to-end =
+    to-end on n is-joined =
         of-either Obeys (ltb room n) (λ e. refuses 20 (omega arith) (λ z. absurd (omega arith)))
-        (λ e. ends added on n open′ good (after 1 false 0 (omega arith) (omega arith) (λ z. refl)) joined-is (ltb-false _ _ e))
+        (λ e. ends added on n open′ good (after 1 false 0 (omega arith) (omega arith) (λ z. refl)) is-joined (ltb-false _ _ e))
 
     to-stray : Obeys (Sure (Stray added))
     unfolding one laneAfter blocksFor
     to-stray = strays added open′ good (after 0 false 0 (omega arith) (omega arith) (λ z. refl))
 
-    grouping : Obeys (groupingPlan l (flags s) (count s) (userOctets (l .settings) s) room)
+    grouping : Obeys (groupingPlan l (flags s) (count s) user room)
     unfolding groupingPlan
     grouping =
-        of-either Obeys (eqb (flags s) 3) (λ e. to-end)
-        (λ e. of-either Obeys (eqb (flags s) 1) (λ f. to-hold (inl (eqb-true _ _ f)))
+        of-either Obeys (eqb (flags s) 3) (λ e. to-end false user (sym (zero-add user)))
+        (λ e. of-either Obeys (eqb (flags s) 1) (λ f. to-hold false user (sym (zero-add user)) (λ z. absurd (true≢false (sym z))) (inl (eqb-true _ _ f)))
         (λ f. of-either Obeys (not on) (λ g. to-stray)
-        (λ g. of-either Obeys (eqb (flags s) 0) (λ h. to-hold (inr (eqb-true _ _ h, not-false on g))) (λ h. to-end))))
+        (λ g. of-either Obeys (eqb (flags s) 0)
+        (λ h. to-hold true (l .octets + user) refl (λ z. on-grouped (not-false on g)) (inr (eqb-true _ _ h, not-false on g)))
+        (λ h. to-end true (l .octets + user) refl))))
 
 pub planned : (l : Lane) (s : List ℕ) (room : ℕ) → fine l ≡ true → Planned l s room (packetPlan l s room)
 unfolding packetPlan acceptedPlan

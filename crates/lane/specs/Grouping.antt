@@ -27,7 +27,3 @@ goesOn l f c = l .grouped && not (breaks (missingBefore l c) f)
 -- what the packet adds to the tallies
 abbrev pub addedFrom : Lane → ℕ → ℕ → Added
 addedFrom l f c = record { missing = missingBefore l c; broke = givesUp l f c; count = c }
-
--- the octets of the group that goes on, or none, and then n octets of user data
-unfoldable pub joined : Lane → ℕ → ℕ → ℕ → ℕ
-joined l f c n = cond (goesOn l f c) (l .octets) 0 + n

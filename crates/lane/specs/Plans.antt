@@ -1,6 +1,6 @@
 -- What a packet does to its lane, decided from that lane alone. Only whether there is room beside the other lanes is left to ask.
-use Prim.Native.Nat.{ℕ, max}
-use mathlib.Core.Bool.{Bool, not}
+use Prim.Native.Nat.{ℕ, _+_, max}
+use mathlib.Core.Bool.{Bool, true, false, not}
 use mathlib.Core.List.{List, [], _∷_}
 use lib.Dec.{eqb, ltb, leb}
 use Rattle.octets.specs.Order.{_gives_, first}
@@ -13,7 +13,7 @@ use Rattle.lane.specs.declared.Step.the-variants.{Refuse, Repeat, Stray,
 use Rattle.lane.specs.declared.Plan.{Plan}
 use Rattle.lane.specs.declared.Plan.the-variants.{Sure, Ask}
 use Rattle.lane.specs.Packets.{fault, userOctets}
-use Rattle.lane.specs.Grouping.{repeats, goesOn, addedFrom, joined}
+use Rattle.lane.specs.Grouping.{repeats, goesOn, addedFrom}
 
 abbrev pub refusing : ℕ → Plan
 refusing number = Sure (Refuse number)
@@ -31,14 +31,14 @@ unitPlan room t on n =
     ((ltb room n gives refusing 20) ∷ [])
 
 -- Flags 3: the user data is a unit. Flags 1: it opens a group. Flags 0 or 2 without an open group: Stray. Flags 0: added. Flags 2: group and
--- user data together are a unit. No group goes on with flags 1 or 3 (the law `anew`)
+-- user data together are a unit
 unfoldable pub groupingPlan : Lane → ℕ → ℕ → ℕ → ℕ → Plan
 groupingPlan l f c n room =
-    first (unitPlan room (addedFrom l f c) (goesOn l f c) (joined l f c n))
-    ((eqb f 3 gives unitPlan room (addedFrom l f c) (goesOn l f c) (joined l f c n))
-    ∷ (eqb f 1 gives holdPlan (l .settings) (addedFrom l f c) (goesOn l f c) (joined l f c n))
+    first (unitPlan room (addedFrom l f c) true (l .octets + n))
+    ((eqb f 3 gives unitPlan room (addedFrom l f c) false n)
+    ∷ (eqb f 1 gives holdPlan (l .settings) (addedFrom l f c) false n)
     ∷ (not (goesOn l f c) gives Sure (Stray (addedFrom l f c)))
-    ∷ (eqb f 0 gives holdPlan (l .settings) (addedFrom l f c) (goesOn l f c) (joined l f c n))
+    ∷ (eqb f 0 gives holdPlan (l .settings) (addedFrom l f c) true (l .octets + n))
     ∷ [])
 
 -- the repeat test, 18, then the grouping rule with 19 and 20: of flags f, count c and n octets of user data
