@@ -13,6 +13,8 @@ helps() {
         ./branmuslin list --help | cmp - "$work/out" && ./branmuslin replay -h | cmp - "$work/out"
 }
 
+lists_sample() { ./branmuslin list samples/paper.bin | cmp - samples/paper.txt; }
+
 replays_sample() {
     ./branmuslin replay samples/lanes.run >"$work/out" && cmp "$work/out" samples/lanes.txt &&
         ./branmuslin replay <samples/lanes.run >"$work/out" && cmp "$work/out" samples/lanes.txt
@@ -65,6 +67,9 @@ else
     check 'branmuslin: a missing toolchain' no_toolchain
 fi
 check 'branmuslin help' helps
+# The first run of a word builds it, and says so in a line; so these come before what counts lines.
+check 'branmuslin list: samples/paper.bin' lists_sample
+check 'branmuslin replay: samples/lanes.run' replays_sample
 check 'branmuslin: no word' refuses 'which word' ./branmuslin
 check 'branmuslin: an unknown word' refuses "unknown word 'lits'" ./branmuslin lits
 for word in list replay; do
@@ -75,7 +80,6 @@ for word in list replay; do
     check "branmuslin $word: an output that is full" full_output "$word"
     check "branmuslin $word: a folder as standard input" folder_as_input "$word"
 done
-check 'branmuslin replay: samples/lanes.run' replays_sample
 check 'branmuslin: from another folder' runs_from_elsewhere
 check 'branmuslin: through links' runs_through_links
 check 'branmuslin: odd file names' odd_names
