@@ -1,3 +1,4 @@
+-- The ways out are those of `Closed`; a lane of a sound state is fine, so its credit fits.
 use mathlib.Core.Path.{sym, ap, _∙_}
 use borrow.Author.Tests.{not-false}
 use denote.Ref.{now}

@@ -1,3 +1,4 @@
+-- The state is the definition's.
 use Rattle.intake.specs.State.{freshState}
 use borrow.Author.Needs.{needs}
 use Rattle.intake.proofs.fresh_start.Statement.{statement}

@@ -1,3 +1,4 @@
+-- Three parts of the test, each left out where an earlier one fails (`Soundness`).
 use Rattle.intake.proofs.Soundness.{not-fine, too-much, matches}
 use borrow.Author.Needs.{needs}
 use Rattle.intake.proofs.is_sound.Statement.{statement}

@@ -1,3 +1,4 @@
+-- The pool's length first, then the state (`Soundness`).
 use Rattle.intake.proofs.Soundness.{by-state, by-pool}
 use borrow.Author.Needs.{needs}
 use Rattle.intake.proofs.is_unsound.Statement.{statement}

@@ -1,3 +1,4 @@
+-- The ways out are those of `Opened`, in the order of the refusals.
 use Rattle.intake.proofs.Opened.{not-sound, no-lane, is-open, is-illegal, no-promise, opens}
 use borrow.Author.Needs.{needs}
 use Rattle.intake.proofs.open_lane.Statement.{statement}

@@ -1,3 +1,4 @@
+-- The larger sum within the packets is the one test that an open group adds (`more-broken`).
 use native.Mathlib.Omega.{arith}
 use mathlib.Core.Path.{sym}
 use Rattle.lane.specs.Lane.{talliesPossible}

@@ -1,3 +1,4 @@
+-- The definition computes; the bound comes from the widths of octets and share.
 use native.Mathlib.Omega.{arith}
 use Rattle.pool.specs.Blocks.{blocksFor}
 use Rattle.lane.specs.Lane.{need}
@@ -7,7 +8,7 @@ use Rattle.lane.proofs.need_of.Tie as tie
 
 returns : tie.Need-returns
 unfolding need blocksFor
-returns c = (cc, omega (arith, c .larger .ensures, c .before .before .blocks-for .ensures, c .before .before .before .struct-known .given, c .before .struct-known2 .given))
+returns c = (simp (c .before .before .before .before .if1 .taken, ← c .before .before .blocks-for .ensures) (c .larger .ensures), omega (arith, c .larger .ensures, c .before .before .blocks-for .ensures, c .before .before .before .struct-known .given, c .before .struct-known2 .given))
 
 returns-2 : tie.Need-returns-2
 unfolding need

@@ -1,3 +1,4 @@
+-- Both ways the definition computes.
 use Rattle.octets.specs.Octets.{one}
 use Rattle.lane.proofs.one_if.Statement.{statement}
 use Rattle.lane.proofs.one_if.Tie as tie

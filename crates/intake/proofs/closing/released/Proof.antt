@@ -1,3 +1,4 @@
+-- Both ways the definition computes.
 use Rattle.intake.specs.After.{releasedFrom}
 use borrow.Author.Needs.{needs}
 use Rattle.intake.proofs.closing.released.Statement.{statement}

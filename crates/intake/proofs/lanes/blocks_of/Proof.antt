@@ -1,3 +1,4 @@
+-- Octets of 16 bits have at most 256 blocks, which fit.
 use native.Mathlib.Omega.{arith}
 use Rattle.pool.specs.Blocks.{blocksFor}
 use borrow.Author.Needs.{needs}

@@ -1,3 +1,4 @@
+-- Past the last lane the list gives its default.
 use mathlib.Core.Path.{sym}
 use lib.ListN.{List·getD-eq-default}
 use Rattle.lane.specs.Lane.{closed}

@@ -1,3 +1,4 @@
+-- One lane is set, and the marks are those given.
 use borrow.Author.Needs.{needs}
 use Rattle.intake.proofs.lanes.with_lane.Statement.{statement}
 use Rattle.intake.proofs.lanes.with_lane.Tie as tie

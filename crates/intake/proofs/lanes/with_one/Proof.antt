@@ -1,3 +1,4 @@
+-- Past the last lane nothing is set.
 use mathlib.Core.Path.{sym}
 use lib.Seq.{set-out}
 use borrow.Author.Needs.{needs}

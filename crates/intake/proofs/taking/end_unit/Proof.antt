@@ -1,3 +1,4 @@
+-- The group and then the user data are one text put once (`Carried`).
 use native.Mathlib.Omega.{arith}
 use denote.Ref.{now}
 use Rattle.intake.proofs.Carried.{fine-after, unit-state, unit-out}

@@ -1,3 +1,4 @@
+-- The marks grow and the octets are stored after those of the group (`Carried`).
 use native.Mathlib.Omega.{arith}
 use denote.Ref.{now}
 use Rattle.intake.proofs.Carried.{fine-after, held-state, held-pool}

@@ -1,3 +1,4 @@
+-- The sum with that lane closed is that of the others.
 use mathlib.Core.Path.{ap, _∙_}
 use Rattle.intake.specs.State.{total, others}
 use borrow.Author.Needs.{needs}

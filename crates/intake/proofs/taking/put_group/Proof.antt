@@ -1,3 +1,4 @@
+-- The group that goes on is gathered; of none there is nothing to put (`Carried`).
 use denote.Ref.{now}
 use Rattle.intake.proofs.Carried.{group-gathered, no-group}
 use borrow.Author.Needs.{needs}

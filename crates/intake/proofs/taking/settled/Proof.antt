@@ -1,3 +1,4 @@
+-- The ways out are those of `Settled`.
 use Rattle.intake.proofs.Settled.{sure, taken, refused}
 use borrow.Author.Needs.{needs}
 use Rattle.intake.proofs.taking.settled.Statement.{statement}

@@ -1,3 +1,4 @@
+-- The lane is counted and its marks are freed (`Carried`).
 use Rattle.intake.proofs.Carried.{fine-after, strayed}
 use borrow.Author.Needs.{needs}
 use Rattle.intake.proofs.taking.stray.Statement.{statement}

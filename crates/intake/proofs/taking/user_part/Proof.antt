@@ -1,3 +1,4 @@
+-- A part to the end is what is left after dropping.
 use native.Mathlib.Omega.{arith}
 use Prim.Native.Nat.{_+_, _-_}
 use mathlib.Core.Path.{sym, _∙_}

@@ -1,11 +1,12 @@
+-- The tests are the definition's.
+use mathlib.Core.Path.{refl}
 use Rattle.lane.specs.Grouping.{repeats}
-use borrow.Author.Needs.{needs}
 use Rattle.lane.proofs.grouping.is_repeat.Statement.{statement}
 use Rattle.lane.proofs.grouping.is_repeat.Tie as tie
 
 returns : tie.Need-returns
 unfolding repeats
-returns c = search needs
+returns c = refl
 
 pub is-repeat-spec : {M : Type 1} → statement M
 is-repeat-spec = tie.close (tie.spec returns)

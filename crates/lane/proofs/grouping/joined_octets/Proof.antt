@@ -1,3 +1,4 @@
+-- Both ways the definition computes.
 use native.Mathlib.Nat.{zero-add}
 use borrow.Author.Needs.{needs}
 use Rattle.lane.proofs.grouping.joined_octets.Statement.{statement}

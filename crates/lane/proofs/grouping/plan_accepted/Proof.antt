@@ -1,3 +1,4 @@
+-- Each exit is the first test that holds.
 use borrow.Author.Tests.{le-leb, lt-leb}
 use Rattle.lane.specs.Plans.{acceptedPlan}
 use borrow.Author.Needs.{needs}

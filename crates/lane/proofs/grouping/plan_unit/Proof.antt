@@ -1,3 +1,4 @@
+-- Each exit is the first test that holds.
 use borrow.Author.Tests.{lt-ltb, le-ltb}
 use Rattle.lane.specs.Plans.{unitPlan}
 use borrow.Author.Needs.{needs}

@@ -1,3 +1,4 @@
+-- Each exit is the first test that holds.
 use borrow.Author.Tests.{lt-ltb, le-ltb, eq-eqb, ne-eqb}
 use Rattle.lane.specs.Faults.{otherRefusal}
 use borrow.Author.Needs.{needs}
