@@ -7,7 +7,7 @@ use mathlib.Core.List.{List, [], _∷_}
 use native.Mathlib.Omega.{arith}
 use borrow.Author.Tests.{ltb-false, not-false}
 use lib.Dec.{ltb}
-use lib.ListN.{length-set}
+use lib.ListN.{length, length-set}
 use Rattle.lane.specs.declared.Settings.{Settings}
 use Rattle.octets.specs.Octets.{one}
 use Rattle.lane.specs.Lane.{closed, illegal, fine}
@@ -19,7 +19,7 @@ use Rattle.intake.specs.State.{freshState, laneAt, total, unsound}
 use Rattle.intake.specs.Calls.{openingRefusal, closingRefusal, packetStep}
 use Rattle.intake.specs.After.{openedWith, releasedFrom, opening, closing, taking}
 use Rattle.intake.proofs.Soundness.{closed-fine}
-use Rattle.demands.specs.Runs.{Shaped, Call, opens, takes, closes, after, run}
+use Rattle.demands.specs.Runs.{Shaped, Intake, freshWith, Call, opens, takes, closes, after, run}
 use Rattle.demands.proofs.Lanes.{need-closed, total-at}
 use Rattle.demands.proofs.Sound.{Sound, fresh, lane-fine, opened-small, room-now, need-open, unless}
 use Rattle.demands.proofs.Marks.{released-length, marks-length, emptied}
@@ -40,11 +40,11 @@ module _ (s : State) (shape : Shaped s) (i : ℕ) where
   unfolding taking
   taking-shaped p octets room = (length-set (s .lanes) i _ ∙ shape .0, marks-length (s .marks) i (laneAt s i) (packetStep s i p octets room) ∙ shape .1)
 
-pub after-shaped : (s : State) → Shaped s → (c : Call) → Shaped (after s c)
+pub after-shaped : (x : Intake) → Shaped (x .state) → (c : Call) → Shaped (after x c .state)
 unfolding after
-after-shaped s shape (opens i settings octets) = opening-shaped s shape i settings octets
-after-shaped s shape (takes i p octets room) = taking-shaped s shape i p octets room
-after-shaped s shape (closes i octets room) = closing-shaped s shape i octets room
+after-shaped x shape (opens i settings) = opening-shaped (x .state) shape i settings (length (x .pool))
+after-shaped x shape (takes i p out) = taking-shaped (x .state) shape i p (length (x .pool)) (length out)
+after-shaped x shape (closes i out) = closing-shaped (x .state) shape i (length (x .pool)) (length out)
 
 -- ---- a sound state stays sound
 opened-fine : (settings : Settings) → illegal settings ≡ false → fine (openedWith settings) ≡ true
@@ -99,17 +99,17 @@ module _ (s : State) (k : Sound s) (i : ℕ) where
   unfolding taking
   taking-sound p octets room = after-step s k i p octets room (stepped s k i p octets room)
 
-pub after-sound : (s : State) → Sound s → (c : Call) → Sound (after s c)
+pub after-sound : (x : Intake) → Sound (x .state) → (c : Call) → Sound (after x c .state)
 unfolding after
-after-sound s k (opens i settings octets) = opening-sound s k i settings octets
-after-sound s k (takes i p octets room) = taking-sound s k i p octets room
-after-sound s k (closes i octets room) = closing-sound s k i octets room
+after-sound x k (opens i settings) = opening-sound (x .state) k i settings (length (x .pool))
+after-sound x k (takes i p out) = taking-sound (x .state) k i p (length (x .pool)) (length out)
+after-sound x k (closes i out) = closing-sound (x .state) k i (length (x .pool)) (length out)
 
--- ---- runs from the fresh start
-run-sound : (s : State) → Sound s → (cs : List Call) → Sound (run s cs)
+-- ---- runs from the fresh start, with any pool
+run-sound : (x : Intake) → Sound (x .state) → (cs : List Call) → Sound (run x cs .state)
 unfolding run
-run-sound s k [] = k
-run-sound s k (c ∷ cs) = run-sound (after s c) (after-sound s k c) cs
+run-sound x k [] = k
+run-sound x k (c ∷ cs) = run-sound (after x c) (after-sound x k c) cs
 
-pub reached : (cs : List Call) → Sound (run freshState cs)
-reached cs = run-sound freshState fresh cs
+pub reached : (pool : List ℕ) (cs : List Call) → Sound (run (freshWith pool) cs .state)
+reached pool cs = run-sound (freshWith pool) fresh cs

@@ -1,27 +1,77 @@
--- Any calls in any order, and the state that they leave.
+-- Any run of openings, packets and closings, with state and pool handed back as the last call left them. What a call does is what its promise says,
+-- for every input; so this is how the code runs.
 use Prim.Native.Nat.{ℕ}
 use mathlib.Core.Path.{_≡_}
+use mathlib.Core.Bool.{Bool, cond}
 use mathlib.Core.List.{List, [], _∷_}
 use lib.ListN.{length}
+use lib.Dec.{eqb}
 use Rattle.lane.specs.declared.Settings.{Settings}
 use Rattle.intake.specs.declared.State.{State}
-use Rattle.intake.specs.After.{opening, closing, taking}
+use Rattle.intake.specs.declared.Answer.{Answer}
+use Rattle.intake.specs.State.{freshState}
+use Rattle.intake.specs.After.{opening, closing, closingOut, taking, takingPool, takingOut}
 
 -- a state has eight lanes and 64 marks, as the lengths of its arrays say
 abbrev pub Shaped : State → Type 0
 Shaped s = (length (s .lanes) ≡ 8) × (length (s .marks) ≡ 64)
 
--- a call, for the lane of that number, with so many octets in the pool; and with so much room in the output
+-- ---- what is handed from call to call
+pub record Intake : Type 0 where
+  pub state : State
+  pub pool : List ℕ
+
+-- a fresh start, with any pool
+abbrev pub freshWith : List ℕ → Intake
+freshWith pool = record { state = freshState; pool = pool }
+
+-- ---- a call names a lane by any number; a packet and a closing come with an output
 pub data Call : Type 0 where
-  opens : (lane : ℕ) (settings : Settings) (pool : ℕ) → Call
-  takes : (lane : ℕ) (packet : List ℕ) (pool room : ℕ) → Call
-  closes : (lane pool room : ℕ) → Call
+  opens : (lane : ℕ) (settings : Settings) → Call
+  takes : (lane : ℕ) (packet out : List ℕ) → Call
+  closes : (lane : ℕ) (out : List ℕ) → Call
 
-unfoldable pub after : State → Call → State
-after s (opens lane settings pool) = opening s lane settings pool .state
-after s (takes lane packet pool room) = taking s lane packet pool room .state
-after s (closes lane pool room) = closing s lane pool room .state
+-- what comes back: an opening's or a closing's refusal, or 0; a packet's answer; and the output after the call
+pub data Reply : Type 0 where
+  opened : (refusal : ℕ) → Reply
+  took : (answer : Answer) (out : List ℕ) → Reply
+  closed : (refusal : ℕ) (out : List ℕ) → Reply
 
-unfoldable pub run : State → List Call → State
-run s [] = s
-run s (c ∷ cs) = run (after s c) cs
+unfoldable pub reply : Intake → Call → Reply
+reply x (opens i settings) = opened (opening (x .state) i settings (length (x .pool)) .refusal)
+reply x (takes i packet out) =
+    took (taking (x .state) i packet (length (x .pool)) (length out) .answer) (takingOut (x .state) i packet (x .pool) out)
+reply x (closes i out) = closed (closing (x .state) i (length (x .pool)) (length out) .refusal) (closingOut (x .state) i (length (x .pool)) out)
+
+unfoldable pub after : Intake → Call → Intake
+after x (opens i settings) = record { state = opening (x .state) i settings (length (x .pool)) .state; pool = x .pool }
+after x (takes i packet out) =
+    record { state = taking (x .state) i packet (length (x .pool)) (length out) .state; pool = takingPool (x .state) i packet (length out) (x .pool) }
+after x (closes i out) = record { state = closing (x .state) i (length (x .pool)) (length out) .state; pool = x .pool }
+
+-- ---- a run
+unfoldable pub run : Intake → List Call → Intake
+run x [] = x
+run x (c ∷ calls) = run (after x c) calls
+
+unfoldable pub replies : Intake → List Call → List Reply
+replies x [] = []
+replies x (c ∷ calls) = reply x c ∷ replies (after x c) calls
+
+-- ---- A source is a lane number; its own calls are all those that name it, in order
+abbrev pub laneOf : Call → ℕ
+laneOf (opens i settings) = i
+laneOf (takes i packet out) = i
+laneOf (closes i out) = i
+
+abbrev pub names : ℕ → Call → Bool
+names i c = eqb (laneOf c) i
+
+unfoldable pub own : ℕ → List Call → List Call
+own i [] = []
+own i (c ∷ calls) = cond (names i c) (c ∷ own i calls) (own i calls)
+
+-- what a source is replied in a run
+unfoldable pub repliesTo : ℕ → Intake → List Call → List Reply
+repliesTo i x [] = []
+repliesTo i x (c ∷ calls) = cond (names i c) (reply x c ∷ repliesTo i (after x c) calls) (repliesTo i (after x c) calls)

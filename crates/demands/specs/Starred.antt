@@ -3,15 +3,15 @@
 use Prim.Native.Nat.{ℕ, _+_, _/_, _%_}
 use mathlib.Core.Bool.{false}
 use mathlib.Core.List.{List, [], _∷_}
+use lib.ListN.{replicate}
 use Rattle.packet.specs.Reading.{reading, content}
 use Rattle.packet.specs.Told.{told}
 use Rattle.packet.specs.declared.Packet.the-variants.{Space, Encapsulation, Refused}
-use Rattle.intake.specs.declared.State.{State}
+use Rattle.pool.specs.Blocks.{poolOctets}
 use Rattle.intake.specs.declared.Answer.{Answer}
 use Rattle.intake.specs.declared.Answer.the-variants.{Repeat, Unit}
-use Rattle.intake.specs.State.{freshState}
 use Rattle.intake.specs.After.{taking}
-use Rattle.demands.specs.Runs.{opens, takes, run}
+use Rattle.demands.specs.Runs.{Intake, freshWith, opens, takes, run}
 
 -- a case of each kind that the paper has, with what comes of it
 infix 15 last_then_gives_
@@ -26,11 +26,11 @@ abbrev pub counting : ℕ → List ℕ
 counting c = 0x00 ∷ 0x2A ∷ (0xC0 + c / 256) ∷ (c % 256) ∷ 0x00 ∷ 0x00 ∷ 0xAA ∷ []
 
 -- lane 0 is opened for APID 42 and takes one such packet
-abbrev pub lastWas : ℕ → State
+abbrev pub lastWas : ℕ → Intake
 lastWas c =
-    run freshState
-    (opens 0 (record { station = 7; apid = 42; secondary = 0; share = 1; cap = 2 }) 16384
-    ∷ takes 0 (counting c) 16384 1
+    run (freshWith (replicate poolOctets 0))
+    (opens 0 (record { station = 7; apid = 42; secondary = 0; share = 1; cap = 2 })
+    ∷ takes 0 (counting c) (0 ∷ [])
     ∷ [])
 
 -- the next one makes a unit of one octet, with so many missing before it and no group given up
@@ -39,7 +39,7 @@ missing n = Unit 1 n false
 
 abbrev pub given : Case → Case
 given (read octets tells part) = read octets (reading octets) (content octets)
-given (last c then d gives answer) = last c then d gives (taking (lastWas c) 0 (counting d) 16384 1 .answer)
+given (last c then d gives answer) = last c then d gives (taking (lastWas c .state) 0 (counting d) poolOctets 1 .answer)
 
 abbrev pub starred : List Case
 starred =

@@ -1,0 +1,122 @@
+-- Demand 2. Reading and writing agree with the books as condensed in the paper, and each reader gives back what its writer was given. Every unit,
+-- missing count and credit is the one the grouping rule gives for the packets that source had accepted.
+use Prim.Native.Nat.{ℕ, _≤_, _<_}
+use mathlib.Core.Path.{_≡_}
+use mathlib.Core.Bool.{true, cond}
+use mathlib.Core.List.{List}
+use mathlib.Core.Logic.{_⊎_}
+use mathlib.Core.Option.{Option, none, some}
+use lib.ListN.{length, take}
+use Rattle.octets.specs.Octets.{AreOctets}
+use Rattle.octets.specs.Output.{put}
+use Rattle.packet.specs.Space.{version, packetType, secondary, apid, flags, count}
+use Rattle.packet.specs.Encapsulation.{protocol, user, extension, encapHeader}
+use Rattle.packet.specs.Reading.{size, refusal, reading, content}
+use Rattle.packet.specs.Told.{told}
+use Rattle.packet.specs.declared.Packet.the-variants.{Space, Encapsulation}
+use Rattle.writing.specs.Space.{spaceOctets, spaceRefusal, spaceAfter}
+use Rattle.writing.specs.Encapsulation.{shortest, encapOctets, encapRefusal, encapAfter}
+use Rattle.writing.specs.Carries.{IsShortest}
+use Rattle.record.specs.Record.{recordSize, unitsIn}
+use Rattle.record.specs.Reading.{recordReading, recordRefusal}
+use Rattle.record.specs.Writing.{writingRefusal}
+use Rattle.record.specs.Told.{fields, toldRead, octetsOf, afterOf}
+use Rattle.record.specs.declared.Record.{Record}
+use Rattle.record.specs.declared.RecordRead.the-variants.{Fields}
+use Rattle.pool.specs.Blocks.{poolOctets}
+use Rattle.lane.specs.declared.Lane.{Lane}
+use Rattle.lane.specs.Lane as lane
+use Rattle.intake.specs.declared.Answer.the-variants.{Repeat}
+use Rattle.intake.specs.State.{laneAt}
+use Rattle.demands.specs.Runs.{freshWith, Call, opens, takes, closes, Reply, opened, took, closed, reply, run, laneOf}
+use Rattle.demands.specs.Groups.{groupIn}
+use Rattle.demands.specs.Rule.{present, octetsIn, repeats, group, unit, answerTo, endings, units, missingInAll, broken, lastCount, credit}
+use Rattle.demands.specs.Past.{Past, shut, since, packetsOf, acceptedOf, isRefused, pastOf, unitsTold}
+
+-- ---- each reader gives back what its writer was given: what lies in the output after the writer reads so, whatever lay there before
+abbrev pub SpaceGivenBack : Type 0
+SpaceGivenBack =
+    (t x a f c : ℕ) (field out : List ℕ) → spaceRefusal t x a f c (length field) (length out) ≡ 0
+    → (reading (spaceAfter t x a f c field out) ≡ told (Space t x a f c (length field))) × (content (spaceAfter t x a f c field out) ≡ field)
+
+abbrev pub EncapsulationGivenBack : Type 0
+EncapsulationGivenBack =
+    (p u x : ℕ) (given out : List ℕ) → encapRefusal p u x (length given) (length out) ≡ 0
+    → (reading (encapAfter p u x given out) ≡ told (Encapsulation p u x (shortest p u (length given)) (length given))) × (content (encapAfter p u x given out) ≡ given)
+
+-- the fields have the widths of the struct
+abbrev pub Wide : Record → Type 0
+Wide r = (r .station < 65536) × (r .apid < 65536) × (r .units < 4294967296) × (r .packets < 4294967296) × (r .missing < 4294967296) × (r .broken < 4294967296)
+
+abbrev pub RecordGivenBack : Type 0
+RecordGivenBack =
+    (r : Record) (out : List ℕ) → Wide r → writingRefusal (r .apid) (r .units) (r .packets) (r .missing) (r .broken) (length out) ≡ 0
+    → recordReading (take recordSize (afterOf r out)) ≡ toldRead (Fields r)
+
+-- ---- Writing what was read gives the same octets for every Space Packet, and for an Encapsulation Packet exactly when its header was the shortest
+abbrev pub SpaceWrittenAgain : Type 0
+SpaceWrittenAgain =
+    (s : List ℕ) → AreOctets s → refusal s ≡ 0 → version s ≡ 0
+    → spaceOctets (packetType s) (secondary s) (apid s) (flags s) (count s) (content s) ≡ take (size s) s
+
+abbrev pub EncapsulationWrittenAgain : Type 0
+EncapsulationWrittenAgain =
+    (s : List ℕ) → AreOctets s → refusal s ≡ 0 → version s ≡ 7
+    → (encapOctets (protocol s) (user s) (extension s) (content s) ≡ take (size s) s → IsShortest (encapHeader s) (protocol s) (user s) (extension s) (content s))
+    × (IsShortest (encapHeader s) (protocol s) (user s) (extension s) (content s) → encapOctets (protocol s) (user s) (extension s) (content s) ≡ take (size s) s)
+
+abbrev pub RecordWrittenAgain : Type 0
+RecordWrittenAgain = (r : Record) (s : List ℕ) → AreOctets s → recordReading s ≡ toldRead (Fields r) → octetsOf r ≡ s
+
+-- ---- the lane that has accepted the packets of its past
+abbrev pub laneFrom : Past → Lane
+laneFrom shut = lane.closed
+laneFrom (since settings packets) =
+    record { opened = true; settings = settings; units = units packets; packets = length packets; missing = missingInAll packets; broken = broken packets; last = lastCount packets; grouped = present (group packets); octets = length (octetsIn (group packets)) }
+
+-- A unit is written at the front of the output; other octets and other answers leave the output alone
+abbrev pub written : List ℕ → Option (List ℕ) → List ℕ
+written out none = out
+written out (some octets) = put out 0 octets
+
+-- what a call is replied if it isn't refused, by the grouping rule; none where it must be refused
+abbrev pub ruled : Past → Call → Option Reply
+ruled shut (opens i settings) = some (opened 0)
+ruled shut (takes i packet out) = none
+ruled shut (closes i out) = none
+ruled (since settings packets) (opens i new) = none
+ruled (since settings packets) (takes i packet out) =
+    some (cond (repeats packets (acceptedOf settings packet)) (took Repeat out) (took (answerTo packets (acceptedOf settings packet)) (written out (unit packets (acceptedOf settings packet)))))
+ruled (since settings packets) (closes i out) = some (closed 0 (put out 0 (octetsOf (credit settings packets))))
+
+-- ---- for every run from a fresh start: each reply that isn't a refusal is the one that the grouping rule gives for the packets that the lane had
+-- accepted
+abbrev pub RepliesAreTheRules : Type 0
+RepliesAreTheRules =
+    (pool : List ℕ) (calls : List Call) (c : Call) → length pool ≡ poolOctets
+    → (isRefused (reply (run (freshWith pool) calls) c) ≡ true) ⊎ (ruled (pastOf (laneOf c) (freshWith pool) calls) c ≡ some (reply (run (freshWith pool) calls) c))
+
+-- and so are the lane's tallies, and the octets of its open group in the pool
+abbrev pub LanesAreTheRules : Type 0
+LanesAreTheRules =
+    (pool : List ℕ) (calls : List Call) (i : ℕ) → length pool ≡ poolOctets
+    → (laneAt (run (freshWith pool) calls .state) i ≡ laneFrom (pastOf i (freshWith pool) calls))
+    × (groupIn (run (freshWith pool) calls .state) (run (freshWith pool) calls .pool) i ≡ octetsIn (group (packetsOf (pastOf i (freshWith pool) calls))))
+
+-- ---- So a credit of n units needs n accepted packets that each end a unit, and each was answered Unit
+abbrev pub CreditNeedsUnits : Type 0
+CreditNeedsUnits =
+    (pool : List ℕ) (calls : List Call) (i n : ℕ) (out credited : List ℕ) → length pool ≡ poolOctets
+    → reply (run (freshWith pool) calls) (closes i out) ≡ closed 0 credited → unitsIn credited ≡ n
+    → (length (endings (packetsOf (pastOf i (freshWith pool) calls))) ≡ n) × (n ≤ length (packetsOf (pastOf i (freshWith pool) calls))) × (unitsTold i (freshWith pool) calls ≡ n)
+
+pub record Demand2 : Type 0 where
+  pub space-given-back : SpaceGivenBack
+  pub encapsulation-given-back : EncapsulationGivenBack
+  pub record-given-back : RecordGivenBack
+  pub space-written-again : SpaceWrittenAgain
+  pub encapsulation-written-again : EncapsulationWrittenAgain
+  pub record-written-again : RecordWrittenAgain
+  pub replies-are-the-rules : RepliesAreTheRules
+  pub lanes-are-the-rules : LanesAreTheRules
+  pub credit-needs-units : CreditNeedsUnits

@@ -1,0 +1,85 @@
+-- What a lane has been told, and so which packets it has accepted since its opening: found from its calls and the replies alone.
+use Prim.Native.Nat.{ℕ, _+_}
+use mathlib.Core.Bool.{Bool, true, false, cond, not}
+use mathlib.Core.List.{List, [], _∷_}
+use lib.ListN.{length}
+use lib.Dec.{eqb}
+use Rattle.octets.specs.Octets.{one}
+use Rattle.packet.specs.Space.{flags, count}
+use Rattle.lane.specs.declared.Settings.{Settings}
+use Rattle.lane.specs.Packets.{userData}
+use Rattle.intake.specs.declared.Answer.the-variants.{Refused, Repeat, Stray, Held, Unit}
+use Rattle.demands.specs.Runs.{Intake, Call, opens, takes, closes, Reply, opened, took, closed, reply, after, names}
+use Rattle.demands.specs.Rule.{Accepted}
+
+-- closed; or open, with the settings of the opening and the packets accepted since, the newest first
+pub data Past : Type 0 where
+  shut : Past
+  since : (settings : Settings) (packets : List Accepted) → Past
+
+abbrev pub packetsOf : Past → List Accepted
+packetsOf shut = []
+packetsOf (since settings packets) = packets
+
+-- a packet as the grouping rule sees it
+abbrev pub acceptedOf : Settings → List ℕ → Accepted
+acceptedOf settings packet = record { flags = flags packet; count = count packet; user = userData settings packet }
+
+-- A refused packet counts as not received, and a Repeat changes nothing
+abbrev pub isRefused : Reply → Bool
+isRefused (opened refusal) = not (eqb refusal 0)
+isRefused (took (Refused number) out) = true
+isRefused (took Repeat out) = false
+isRefused (took (Stray missing gave) out) = false
+isRefused (took (Held missing gave) out) = false
+isRefused (took (Unit octets missing gave) out) = false
+isRefused (closed refusal out) = not (eqb refusal 0)
+
+abbrev pub isAccepted : Reply → Bool
+isAccepted (opened refusal) = false
+isAccepted (took (Refused number) out) = false
+isAccepted (took Repeat out) = false
+isAccepted (took (Stray missing gave) out) = true
+isAccepted (took (Held missing gave) out) = true
+isAccepted (took (Unit octets missing gave) out) = true
+isAccepted (closed refusal out) = false
+
+abbrev pub withPacket : Past → List ℕ → Past
+withPacket shut packet = shut
+withPacket (since settings packets) packet = since settings (acceptedOf settings packet ∷ packets)
+
+-- the past after one more call of that lane, and its reply
+abbrev pub later : Past → Call → Reply → Past
+later past (opens i settings) r = cond (isRefused r) past (since settings [])
+later past (takes i packet out) r = cond (isAccepted r) (withPacket past packet) past
+later past (closes i out) r = cond (isRefused r) past shut
+
+-- lane i's past after a run
+unfoldable pub pastFrom : ℕ → Past → Intake → List Call → Past
+pastFrom i past x [] = past
+pastFrom i past x (c ∷ calls) = pastFrom i (cond (names i c) (later past c (reply x c)) past) (after x c) calls
+
+abbrev pub pastOf : ℕ → Intake → List Call → Past
+pastOf i x calls = pastFrom i shut x calls
+
+-- ---- how often lane i has been answered Unit since its opening
+abbrev pub isUnit : Reply → Bool
+isUnit (opened refusal) = false
+isUnit (took (Refused number) out) = false
+isUnit (took Repeat out) = false
+isUnit (took (Stray missing gave) out) = false
+isUnit (took (Held missing gave) out) = false
+isUnit (took (Unit octets missing gave) out) = true
+isUnit (closed refusal out) = false
+
+abbrev pub tally : ℕ → Call → Reply → ℕ
+tally n (opens i settings) r = cond (isRefused r) n 0
+tally n (takes i packet out) r = n + one (isUnit r)
+tally n (closes i out) r = cond (isRefused r) n 0
+
+unfoldable pub unitsToldFrom : ℕ → ℕ → Intake → List Call → ℕ
+unitsToldFrom i n x [] = n
+unitsToldFrom i n x (c ∷ calls) = unitsToldFrom i (cond (names i c) (tally n c (reply x c)) n) (after x c) calls
+
+abbrev pub unitsTold : ℕ → Intake → List Call → ℕ
+unitsTold i x calls = unitsToldFrom i 0 x calls
