@@ -62,9 +62,9 @@ opened-fine settings e =
 
 module _ (s : State) (k : Sound s) (i : ℕ) where
   module _ (settings : Settings) (octets : ℕ) where
-    opened : openingRefusal s i settings octets ≡ 0 → (i < 8) × (laneAt s i .opened ≡ false) × (illegal settings ≡ false) × (settings .share + total (s .lanes) ≤ 64)
+    pub opened-at : openingRefusal s i settings octets ≡ 0 → (i < 8) × (laneAt s i .opened ≡ false) × (illegal settings ≡ false) × (settings .share + total (s .lanes) ≤ 64)
     unfolding openingRefusal
-    opened e =
+    opened-at e =
         let a = passes (unsound s octets) 24 _ (λ t. omega arith) e in
         let b = passes (ltb 7 i) 11 _ (λ t. omega arith) (a .1) in
         let c = passes (laneAt s i .opened) 21 _ (λ t. omega arith) (b .1) in
@@ -76,7 +76,7 @@ module _ (s : State) (k : Sound s) (i : ℕ) where
     unfolding opening releasedFrom
     opening-sound =
         unless Sound (openingRefusal s i settings octets) k (λ e.
-        let o = opened e in
+        let o = opened-at e in
         let shut : laneAt s i .grouped ≡ false = is-fine (laneAt s i) (lane-fine s k i) .shut (o .1) in
         simp shut at (emptied s k i (o .0) (openedWith settings) (opened-fine settings (o .2))
         (omega (arith, need-open (openedWith settings) refl, none-held, total-at (s .lanes) i (omega (arith, k .shape .0, o .0)), o .3)) refl))

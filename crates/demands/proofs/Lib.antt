@@ -7,4 +7,5 @@ pub mod Steps
 pub mod Order
 pub mod Calls
 pub mod Groups
+pub mod View
 pub mod Laws
