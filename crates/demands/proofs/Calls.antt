@@ -15,7 +15,7 @@ use Rattle.lane.proofs.Fine.{Legal, is-legal, is-fine, fine-is}
 use Rattle.lane.proofs.Accepted.{passes}
 use Rattle.lane.proofs.Planned.{none-held}
 use Rattle.intake.specs.declared.State.{State}
-use Rattle.intake.specs.State.{freshState, laneAt, total, unsound}
+use Rattle.intake.specs.State.{laneAt, total, unsound}
 use Rattle.intake.specs.Calls.{openingRefusal, closingRefusal, packetStep}
 use Rattle.intake.specs.After.{openedWith, releasedFrom, opening, closing, taking}
 use Rattle.intake.proofs.Soundness.{closed-fine}

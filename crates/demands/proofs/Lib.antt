@@ -8,4 +8,5 @@ pub mod Order
 pub mod Calls
 pub mod Groups
 pub mod View
+pub mod Alone
 pub mod Laws

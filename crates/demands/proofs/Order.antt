@@ -34,7 +34,7 @@ and-false true = refl
 and-false false = refl
 
 -- an open lane's share fits beside the others
-share-fits : (s : State) → Sound s → (i : ℕ) → laneAt s i .opened ≡ true → laneAt s i .settings .share + others (s .lanes) i ≤ 64
+pub share-fits : (s : State) → Sound s → (i : ℕ) → laneAt s i .opened ≡ true → laneAt s i .settings .share + others (s .lanes) i ≤ 64
 share-fits s k i o = omega (arith, need-open (laneAt s i) o, room-now s k i (opened-small s k i o))
 
 -- ---- the last three tests, for a lane l that would hold h beside the others' sum o, and would write u

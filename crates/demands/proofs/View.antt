@@ -6,16 +6,14 @@ use mathlib.Core.Bool.{Bool, true, false, cond}
 use mathlib.Core.List.{List, [], _++_}
 use native.Mathlib.Decide.{decLt}
 use native.Mathlib.Omega.{arith}
-use lib.ListN.{length, getD, set, List·getD-eq-default, length-set}
+use lib.ListN.{length, getD, set, List·getD-eq-default}
 use lib.Seq.{getD-set-same}
 use borrow.Author.Tests.{eqb-true}
 use lib.Dec.{eqb}
 use Rattle.octets.specs.Output.{put, unlessRefused}
-use Rattle.octets.proofs.Order.{either}
 use Rattle.pool.specs.Octets.{gathered}
 use Rattle.lane.specs.declared.Settings.{Settings}
 use Rattle.lane.specs.declared.Lane.{Lane}
-use Rattle.lane.specs.declared.Added.{Added}
 use Rattle.lane.specs.declared.Step.{Step}
 use Rattle.lane.specs.declared.Step.the-variants.{Refuse, Repeat, Stray, Hold, Unit}
 use Rattle.lane.specs.Lane.{closed}
@@ -27,7 +25,7 @@ use Rattle.intake.specs.State.{laneAt, others}
 use Rattle.intake.specs.Calls.{openingRefusal, closingRefusal, settle, packetStep}
 use Rattle.intake.specs.After.{openedWith, opening, closing, marksAfter, poolAfter, outAfter, groupOf, userOf, answerOf, answered, taking, takingPool, takingOut}
 use Rattle.intake.proofs.Taken.{same-state}
-use Rattle.demands.specs.Runs.{Intake, Call, opens, takes, closes, Reply, took, reply, after, laneOf}
+use Rattle.demands.specs.Runs.{Intake, Call, opens, takes, closes, took, reply, after, laneOf}
 use Rattle.demands.specs.Groups.{groupIn, Leaves}
 use Rattle.demands.proofs.Sound.{Sound, not-unsound}
 use Rattle.demands.proofs.Steps.{Stepped, refuses, repeats, strays, ends, holds, stepped}

@@ -18,7 +18,7 @@ use Rattle.writing.specs.Space.{spaceOctets, spaceRefusal, spaceAfter}
 use Rattle.writing.specs.Encapsulation.{shortest, encapOctets, encapRefusal, encapAfter}
 use Rattle.writing.specs.Carries.{IsShortest}
 use Rattle.record.specs.Record.{recordSize, unitsIn}
-use Rattle.record.specs.Reading.{recordReading, recordRefusal}
+use Rattle.record.specs.Reading.{recordReading}
 use Rattle.record.specs.Writing.{writingRefusal}
 use Rattle.record.specs.Told.{fields, toldRead, octetsOf, afterOf}
 use Rattle.record.specs.declared.Record.{Record}

@@ -1,0 +1,220 @@
+-- A source within its share is answered as if alone. The shared run and the run of its own calls go side by side: the lane looks the same in both, and in
+-- the second no other lane is open. What is done is planned from the lane alone; where the plan asks for room, it asks for the share, and a share that
+-- was promised fits in both.
+use Prim.Native.Nat.{ℕ, zero, suc, _+_, _≤_, max}
+use mathlib.Core.Path.{_≡_, refl, sym, ap, ap₂, subst, _∙_}
+use mathlib.Core.Bool.{true, false}
+use mathlib.Core.List.{List, [], _∷_}
+use native.Mathlib.Omega.{arith}
+use borrow.Author.Tests.{eqb-true, eqb-false, le-leb, le-ltb, ltb-false}
+use lib.Dec.{ltb, leb}
+use lib.ListN.{length, getD, set, replicate}
+use lib.Seq.{set-set}
+use Rattle.octets.specs.Output.{unlessRefused, outputAfter}
+use Rattle.octets.proofs.Order.{either}
+use Rattle.record.specs.Told.{octetsOf}
+use Rattle.pool.specs.Blocks.{blocksFor}
+use Rattle.pool.specs.Octets.{gathered}
+use Rattle.lane.specs.declared.Settings.{Settings}
+use Rattle.lane.specs.declared.Lane.{Lane}
+use Rattle.lane.specs.declared.Step.{Step}
+use Rattle.lane.specs.declared.Step.the-variants.{Hold}
+use Rattle.lane.specs.declared.Plan.{Plan}
+use Rattle.lane.specs.Lane.{closed, held, need, illegal}
+use Rattle.lane.specs.Packets.{userData}
+use Rattle.lane.specs.Plans.{packetPlan}
+use Rattle.lane.specs.Steps.{laneAfter}
+use Rattle.lane.proofs.Fine.{is-fine, is-legal}
+use Rattle.lane.proofs.Planned.{Planned, planned, refuses, repeats, strays, ends, holds}
+use Rattle.intake.specs.declared.State.{State}
+use Rattle.intake.specs.State.{freshState, laneAt, total, others}
+use Rattle.intake.specs.Calls.{openingRefusal, closingRefusal, settle}
+use Rattle.intake.specs.After.{openedWith, opening, closing, creditOf, closingOut, answerOf, taking}
+use Rattle.demands.specs.Runs.{Intake, freshWith, Call, opens, takes, closes, Reply, opened, took, reply, after, replies, laneOf, names, own, repliesTo}
+use Rattle.demands.specs.Runs as runs
+use Rattle.demands.specs.Demand3.{StaysInShare, NoneUnpromised, AsAlone}
+use Rattle.demands.proofs.Lanes.{need-closed, total-at}
+use Rattle.demands.proofs.Sound.{Sound, not-unsound, fresh, lane-fine, unless}
+use Rattle.demands.proofs.Order.{share-fits}
+use Rattle.demands.proofs.Calls.{after-sound}
+use Rattle.demands.proofs.View.{Slot, slotIn, slotAfter, outFrom, stepFor, without, after-size, settled, took-reply, took-slot, opened-slot, closed-slot, other-slot}
+
+-- a lane holds no more than its share
+abbrev InShare : Lane → Type 0
+InShare l = held l ≤ l .settings .share
+
+-- ---- a plan is settled alike beside others as beside none, where the lane then holds no more than its share and the share fits beside the others
+same-step : (l : Lane) (p : List ℕ) (room o : ℕ) {d : Plan} → Planned l p room d → (l .opened ≡ true → l .settings .share + o ≤ 64) → InShare (laneAfter l (settle 0 d)) → settle o d ≡ settle 0 d
+unfolding settle laneAfter
+same-step l p room o (refuses n few h) fits w = refl
+same-step l p room o repeats fits w = refl
+same-step l p room o (strays a on f g) fits w = refl
+same-step l p room o (ends a on n op f g e h) fits w = refl
+same-step l p room o (holds a on n op f g e h t) fits w =
+    let good = is-fine (laneAfter l (Hold a on n)) g in
+    let asks : ℕ = max (blocksFor n) (l .settings .share) in
+    let alone : leb (asks + 0) 64 ≡ true = le-leb (asks + 0) 64 (omega (arith, good .within, good .legal op .share, good .legal op .cap)) in
+    let few : blocksFor n ≤ l .settings .share = simp alone at w in
+    let beside : leb (asks + o) 64 ≡ true = le-leb (asks + o) 64 (omega (arith, fits op)) in
+    simp (alone, beside)
+
+-- ---- the two runs side by side: x shared, y alone
+record Alike (i : ℕ) (x y : Intake) : Type 0 where
+  shared : Sound (x .state)
+  alone : Sound (y .state)
+  size : length (x .pool) ≡ 16384
+  size-alone : length (y .pool) ≡ 16384
+  slot : slotIn x i ≡ slotIn y i
+  no-other : others (y .state .lanes) i ≡ 0
+
+module _ (i : ℕ) (x y : Intake) (k : Alike i x y) where
+  same-lane : laneAt (x .state) i ≡ laneAt (y .state) i
+  same-lane = ap (λ (v : Slot). v .lane) (k .slot)
+
+  abbrev Together : Call → Type 0
+  Together c = (reply x c ≡ reply y c) × (slotIn (after x c) i ≡ slotIn (after y c) i)
+
+  module _ (p out : List ℕ) where
+    same-decision : InShare (laneAt (after y (takes i p out) .state) i) → stepFor x i p out ≡ stepFor y i p out
+    same-decision w =
+        let l : Lane = laneAt (x .state) i in
+        let theirs : stepFor y i p out ≡ settle 0 (packetPlan l p (length out)) = settled y (k .alone) (k .size-alone) i p out ∙ rw (k .no-other, same-lane) in
+        let then : InShare (laneAfter l (settle 0 (packetPlan l p (length out)))) =
+          subst InShare (ap (λ (v : Slot). v .lane) (took-slot y (k .alone) (k .size-alone) i p out) ∙ ap₂ laneAfter (sym same-lane) theirs) w in
+        settled x (k .shared) (k .size) i p out
+        ∙ same-step l p (length out) (others (x .state .lanes) i) (planned l p (length out) (lane-fine (x .state) (k .shared) i)) (share-fits (x .state) (k .shared) i) then
+        ∙ sym theirs
+
+    taken-together : InShare (laneAt (after y (takes i p out) .state) i) → Together (takes i p out)
+    taken-together w =
+        let d : stepFor x i p out ≡ stepFor y i p out = same-decision w in
+        let told : Slot → Step → Reply = λ v e. took (answerOf e) (outFrom (v .group) (userData (v .lane .settings) p) e out) in
+        (took-reply x i p out ∙ ap₂ told (k .slot) d ∙ sym (took-reply y i p out),
+        took-slot x (k .shared) (k .size) i p out ∙ ap₂ (λ (v : Slot) (e : Step). slotAfter v p e) (k .slot) d ∙ sym (took-slot y (k .alone) (k .size-alone) i p out))
+
+  module _ (settings : Settings) where
+    abbrev shares : ℕ
+    shares = settings .share + total (x .state .lanes)
+
+    -- alone, a share that is legal can be promised
+    promised : ltb 7 i ≡ false → laneAt (y .state) i .opened ≡ false → illegal settings ≡ false → ltb 64 (settings .share + total (y .state .lanes)) ≡ false
+    unfolding need
+    promised small shut legal =
+        let none : need (laneAt (y .state) i) ≡ 0 = simp shut in
+        let law = is-legal settings legal in
+        le-ltb 64 (settings .share + total (y .state .lanes))
+        (omega (arith, none, total-at (y .state .lanes) i (omega (arith, k .alone .shape .0, ltb-false 7 i small)), k .no-other, law .share, law .cap))
+
+    same-opening : (openingRefusal (x .state) i settings 16384 ≡ 23 → ⊥) → openingRefusal (x .state) i settings 16384 ≡ openingRefusal (y .state) i settings 16384
+    unfolding openingRefusal
+    same-opening never =
+        simp (not-unsound (x .state) (k .shared), not-unsound (y .state) (k .alone), same-lane)
+        (either (ltb 7 i) (λ a. simp a)
+        (λ a. simp a (either (laneAt (y .state) i .opened) (λ b. simp b)
+        (λ b. simp b (either (illegal settings) (λ c. simp c)
+        (λ c. simp (c, promised a b c) (either (ltb 64 shares)
+        (λ d. absurd (never (simp (not-unsound (x .state) (k .shared), same-lane, a, b, c, d))))
+        (λ d. simp d))))))))
+
+    opened-together : (reply x (opens i settings) ≡ opened 23 → ⊥) → Together (opens i settings)
+    unfolding reply opening
+    opened-together never =
+        let same : openingRefusal (x .state) i settings (length (x .pool)) ≡ openingRefusal (y .state) i settings (length (y .pool)) =
+          rw (k .size, k .size-alone) (same-opening (λ e. never (ap opened (rw (k .size) e)))) in
+        (ap opened same,
+        opened-slot x (k .shared) (k .size) i settings ∙ ap₂ (λ (n : ℕ) (v : Slot). unlessRefused n (without (openedWith settings)) v) same (k .slot)
+        ∙ sym (opened-slot y (k .alone) (k .size-alone) i settings))
+
+  module _ (out : List ℕ) where
+    same-closing : closingRefusal (x .state) i (length (x .pool)) (length out) ≡ closingRefusal (y .state) i (length (y .pool)) (length out)
+    unfolding closingRefusal
+    same-closing = rw (k .size, k .size-alone) (simp (not-unsound (x .state) (k .shared), not-unsound (y .state) (k .alone), same-lane))
+
+    closed-together : Together (closes i out)
+    unfolding reply closing closingOut
+    closed-together =
+        (ap₂ (λ (n : ℕ) (l : Lane). runs.closed n (outputAfter n (octetsOf (creditOf l)) out)) same-closing same-lane,
+        closed-slot x (k .shared) (k .size) i out ∙ ap₂ (λ (n : ℕ) (v : Slot). unlessRefused n (without closed) v) same-closing (k .slot)
+        ∙ sym (closed-slot y (k .alone) (k .size-alone) i out))
+
+-- a call of the source itself, in its share, and with its share promised
+together : (x y : Intake) (c : Call) (k : Alike (laneOf c) x y) → InShare (laneAt (after y c .state) (laneOf c)) → (reply x c ≡ opened 23 → ⊥) → Together (laneOf c) x y k c
+together x y (opens i settings) k w never = opened-together i x y k settings never
+together x y (takes i p out) k w never = taken-together i x y k p out w
+together x y (closes i out) k w never = closed-together i x y k out
+
+-- its own calls open no other lane
+others-same : (ls : List Lane) (i : ℕ) (l : Lane) → others (set ls i l) i ≡ others ls i
+unfolding others
+others-same ls i l = ap total (set-set ls i l closed)
+
+still-no-other : (y : Intake) (c : Call) → others (after y c .state .lanes) (laneOf c) ≡ others (y .state .lanes) (laneOf c)
+unfolding after opening closing taking
+still-no-other y (opens i settings) = unless (λ (t : State). others (t .lanes) i ≡ others (y .state .lanes) i) (openingRefusal (y .state) i settings (length (y .pool))) refl (λ e. others-same (y .state .lanes) i _)
+still-no-other y (takes i p out) = others-same (y .state .lanes) i _
+still-no-other y (closes i out) = unless (λ (t : State). others (t .lanes) i ≡ others (y .state .lanes) i) (closingRefusal (y .state) i (length (y .pool)) (length out)) refl (λ e. others-same (y .state .lanes) i _)
+
+module _ (i : ℕ) where
+  own-call : (x y : Intake) (c : Call) → laneOf c ≡ i → Alike i x y → InShare (laneAt (after y c .state) i) → (reply x c ≡ opened 23 → ⊥) → (reply x c ≡ reply y c) × Alike i (after x c) (after y c)
+  own-call x y c e = subst (λ (j : ℕ). Alike j x y → InShare (laneAt (after y c .state) j) → (reply x c ≡ opened 23 → ⊥) → (reply x c ≡ reply y c) × Alike j (after x c) (after y c)) e
+      (λ k w never. let both = together x y c k w never in (both .0, record {
+        shared = after-sound x (k .shared) c;
+        alone = after-sound y (k .alone) c;
+        size = after-size x c ∙ k .size;
+        size-alone = after-size y c ∙ k .size-alone;
+        slot = both .1;
+        no-other = still-no-other y c ∙ k .no-other;
+      }))
+
+  other-call : (x y : Intake) (c : Call) → (laneOf c ≡ i → ⊥) → Alike i x y → Alike i (after x c) y
+  other-call x y c other k = record {
+    shared = after-sound x (k .shared) c;
+    alone = k .alone;
+    size = after-size x c ∙ k .size;
+    size-alone = k .size-alone;
+    slot = other-slot x (k .shared) (k .size) c i other ∙ k .slot;
+    no-other = k .no-other;
+  }
+
+  along : (calls : List Call) (x y : Intake) → Alike i x y → StaysInShare i y (own i calls) → NoneUnpromised (repliesTo i x calls) → repliesTo i x calls ≡ replies y (own i calls)
+  unfolding own repliesTo replies StaysInShare NoneUnpromised
+  along [] x y k w never = refl
+  along (c ∷ calls) x y k w never =
+      either (names i c)
+      (λ e.
+      let w′ : StaysInShare i y (c ∷ own i calls) = simp e at w in
+      let never′ : NoneUnpromised (reply x c ∷ repliesTo i (after x c) calls) = simp e at never in
+      let both = own-call x y c (eqb-true (laneOf c) i e) k (w′ .0) (never′ .0) in
+      simp e (ap₂ (λ (r : Reply) (rs : List Reply). r ∷ rs) (both .0) (along calls (after x c) (after y c) (both .1) (w′ .1) (never′ .1))))
+      (λ e. simp e (along calls (after x c) y (other-call x y c (eqb-false (laneOf c) i e) k) (simp e at w) (simp e at never)))
+
+-- ---- at the fresh start the lane is closed in both, whatever lies in the pools
+no-need : (n i : ℕ) → others (replicate n closed) i ≡ 0
+unfolding others total
+no-need zero i = refl
+no-need (suc n) zero = omega (arith, need-closed, total-none n)
+  where
+    total-none : (n : ℕ) → total (replicate n closed) ≡ 0
+    total-none zero = refl
+    total-none (suc n) = omega (arith, need-closed, total-none n)
+no-need (suc n) (suc i) = omega (arith, need-closed, no-need n i)
+
+all-closed : (n i : ℕ) → getD (replicate n closed) i closed ≡ closed
+all-closed zero i = refl
+all-closed (suc n) zero = refl
+all-closed (suc n) (suc i) = all-closed n i
+
+pub fresh-slot : (pool : List ℕ) (i : ℕ) → slotIn (freshWith pool) i ≡ without closed
+unfolding freshState gathered
+fresh-slot pool i = rw (all-closed 8 i)
+
+pub as-alone : AsAlone
+unfolding freshState
+as-alone i calls pool alone size size-alone w never =
+    along i calls (freshWith pool) (freshWith alone)
+    (record {
+      shared = fresh; alone = fresh; size = size; size-alone = size-alone;
+      slot = fresh-slot pool i ∙ sym (fresh-slot alone i);
+      no-other = no-need 8 i;
+    })
+    w never
