@@ -184,7 +184,7 @@ module _ (s : State) (shape : Shaped s) (e : sound s ≡ true) where
 
   -- ---- a lane in its share isn't refused room
   pub within-share : (i : ℕ) (p : List ℕ) (octets room : ℕ) → wouldHold (laneAt s i) p ≤ laneAt s i .settings .share → packetStep s i p octets room ≡ Refuse 19 → ⊥
-  within-share i p octets room h z = room-in-share s k i p octets room h (sym (packet-order s shape i p octets room) ∙ ap refusalOf z)
+  within-share i p octets room h z = room-in-share s i p octets room k h (sym (packet-order s shape i p octets room) ∙ ap refusalOf z)
 
   -- ---- no lane is above its cap
   pub within-cap : (i : ℕ) → held (laneAt s i) ≤ laneAt s i .settings .cap

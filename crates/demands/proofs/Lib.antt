@@ -7,6 +7,8 @@ pub mod Steps
 pub mod Order
 pub mod Calls
 pub mod Groups
+pub mod Moves
 pub mod View
 pub mod Alone
 pub mod Laws
+pub mod Shared

@@ -107,23 +107,30 @@ ordered s shape i p octets room =
     (λ c. simp c (either (leb 262144 (l .packets)) (λ d. simp d)
     (λ d. simp d (grouping l (others (s .lanes) i) room (share-fits s (is-sound s shape (then-sound s octets e .0)) i (not-false _ a)) p))))))))))
 
--- ---- no test for 19 holds of a lane that would hold no more than its share
-module _ (s : State) (k : Sound s) (i : ℕ) (p : List ℕ) (octets room : ℕ) where
+-- ---- no test for 19 holds of an open lane that would hold no more than its cap and has the room beside the others
+abbrev Not19 : ℕ → Type 0
+Not19 n = n ≡ 19 → ⊥
+
+module _ (s : State) (i : ℕ) (p : List ℕ) (octets room : ℕ) where
   abbrev own : Lane
   own = laneAt s i
 
-  abbrev Not19 : ℕ → Type 0
-  Not19 n = n ≡ 19 → ⊥
+  abbrev h : ℕ
+  h = wouldHold own p
 
-  pub room-in-share : wouldHold own p ≤ own .settings .share → Not19 (first 0 (packetTests s i p octets room))
-  room-in-share h =
+  pub not-19 : (own .opened ≡ true → (h ≤ own .settings .cap) × (max h (own .settings .share) + others (s .lanes) i ≤ 64)) → Not19 (first 0 (packetTests s i p octets room))
+  not-19 fits =
       of-either Not19 (unsound s octets) (λ a z. omega arith)
       (λ a. of-either Not19 (not (own .opened)) (λ b z. omega arith)
       (λ b.
-      let open′ : own .opened ≡ true = not-false _ b in
+      let both = fits (not-false _ b) in
       of-either Not19 (not (eqb (fault (own .settings) p) 0)) (λ c z. omega (arith, fault-most (own .settings) p))
       (λ c. of-either Not19 (repeats own (count p)) (λ d z. omega arith)
       (λ d. of-either Not19 (leb 262144 (own .packets)) (λ e z. omega arith)
-      (λ e. of-either Not19 (ltb (own .settings .cap) (wouldHold own p)) (λ f z. omega (arith, ltb-true (own .settings .cap) (wouldHold own p) f, is-fine own (lane-fine s k i) .legal open′ .share))
-      (λ f. of-either Not19 (ltb 64 (max (wouldHold own p) (own .settings .share) + others (s .lanes) i)) (λ g z. omega (arith, ltb-true 64 (max (wouldHold own p) (own .settings .share) + others (s .lanes) i) g, share-fits s k i open′))
+      (λ e. of-either Not19 (ltb (own .settings .cap) h) (λ f z. omega (arith, ltb-true (own .settings .cap) h f))
+      (λ f. of-either Not19 (ltb 64 (max h (own .settings .share) + others (s .lanes) i)) (λ g z. omega (arith, ltb-true 64 (max h (own .settings .share) + others (s .lanes) i) g))
       (λ g. of-either Not19 (ltb room (wouldWrite own p)) (λ j z. omega arith) (λ j z. omega arith))))))))
+
+  -- so of one that would hold no more than its share
+  pub room-in-share : Sound s → h ≤ own .settings .share → Not19 (first 0 (packetTests s i p octets room))
+  room-in-share k few = not-19 (λ o. (omega (arith, is-fine own (lane-fine s k i) .legal o .share), omega (arith, share-fits s k i o)))

@@ -3,7 +3,7 @@
 use Prim.Native.Nat.{ℕ, _<_}
 use mathlib.Core.Path.{_≡_, refl, sym, ap, ap₂, _∙_}
 use mathlib.Core.Bool.{Bool, true, false, cond}
-use mathlib.Core.List.{List, [], _++_}
+use mathlib.Core.List.{List, [], _∷_, _++_}
 use native.Mathlib.Decide.{decLt}
 use native.Mathlib.Omega.{arith}
 use lib.ListN.{length, getD, set, List·getD-eq-default}
@@ -25,7 +25,7 @@ use Rattle.intake.specs.State.{laneAt, others}
 use Rattle.intake.specs.Calls.{openingRefusal, closingRefusal, settle, packetStep}
 use Rattle.intake.specs.After.{openedWith, opening, closing, marksAfter, poolAfter, outAfter, groupOf, userOf, answerOf, answered, taking, takingPool, takingOut}
 use Rattle.intake.proofs.Taken.{same-state}
-use Rattle.demands.specs.Runs.{Intake, Call, opens, takes, closes, took, reply, after, laneOf}
+use Rattle.demands.specs.Runs.{Intake, Call, opens, takes, closes, took, reply, after, run, laneOf}
 use Rattle.demands.specs.Groups.{groupIn, Leaves}
 use Rattle.demands.proofs.Sound.{Sound, not-unsound}
 use Rattle.demands.proofs.Steps.{Stepped, refuses, repeats, strays, ends, holds, stepped}
@@ -116,6 +116,11 @@ unfolding after
 after-size x (opens i settings) = refl
 after-size x (takes i p out) = pool-length (x .state) i p (length out) (x .pool)
 after-size x (closes i out) = refl
+
+pub run-size : (x : Intake) (calls : List Call) → length (run x calls .pool) ≡ length (x .pool)
+unfolding run
+run-size x [] = refl
+run-size x (c ∷ calls) = run-size (after x c) calls ∙ after-size x c
 
 pub took-reply : (x : Intake) (i : ℕ) (p out : List ℕ)
     → reply x (takes i p out) ≡ took (answerOf (stepFor x i p out)) (outFrom (slotIn x i .group) (userData (slotIn x i .lane .settings) p) (stepFor x i p out) out)

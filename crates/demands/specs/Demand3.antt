@@ -5,18 +5,22 @@
 use Prim.Native.Nat.{ℕ, _+_, _-_, _/_, _≤_, _<_, max}
 use Prim.{Unit}
 use mathlib.Core.Path.{_≡_}
-use mathlib.Core.Bool.{Bool, false, cond}
+use mathlib.Core.Bool.{Bool, true, false, cond, _&&_}
 use mathlib.Core.List.{List, [], _∷_, map}
 use mathlib.Core.Logic.{_⊎_}
 use lib.ListN.{length, getD, take}
-use lib.Dec.{eqb}
+use lib.Dec.{eqb, ltb}
+use Rattle.packet.specs.Space as space
 use Rattle.packet.specs.Space.{flags}
 use Rattle.pool.specs.Blocks.{blockOctets, poolOctets, free, mark, freed}
 use Rattle.pool.specs.Octets.{place}
 use Rattle.pool.specs.Matching.{count, isFree, sum}
+use Rattle.lane.specs.declared.Lane.{Lane}
 use Rattle.lane.specs.Lane.{held}
+use Rattle.lane.specs.Packets.{fault}
+use Rattle.lane.specs.Grouping.{repeats, goesOn}
 use Rattle.intake.specs.declared.State.{State}
-use Rattle.intake.specs.declared.Answer.the-variants.{Refused, Held}
+use Rattle.intake.specs.declared.Answer.the-variants.{Held}
 use Rattle.intake.specs.State.{laneAt, others}
 use Rattle.demands.specs.Runs.{Intake, freshWith, Call, takes, Reply, opened, took, reply, after, run, replies, laneOf, own, repliesTo}
 use Rattle.demands.specs.Order.{wouldHold}
@@ -98,15 +102,24 @@ Freed =
     → laneAt (after (run (freshWith pool) calls) c .state) (laneOf c) .grouped ≡ false
     → markAt (after (run (freshWith pool) calls) c .state) b ≡ free
 
--- a lane that needs blocks and has the room, beside the others, isn't refused it
-abbrev pub HasRoom : Type 0
-HasRoom =
-    (pool : List ℕ) (calls : List Call) (i : ℕ) (packet out left : List ℕ) → Empty pool
+-- ---- the next lane that needs a block and has the room gets it
+-- a packet that is to be held: it comes to an open lane without a fault, is no repeat nor one too many, and begins a group or adds to one
+abbrev pub ToBeHeld : Lane → List ℕ → Type 0
+ToBeHeld l packet =
+    (l .opened ≡ true) × (fault (l .settings) packet ≡ 0) × (repeats l (space.count packet) ≡ false) × (l .packets < 262144)
+    × ((flags packet ≡ 1) ⊎ ((flags packet ≡ 0) × (goesOn l (flags packet) (space.count packet) ≡ true)))
+
+-- it is held where its lane's cap and the other lanes leave the room
+abbrev pub GetsRoom : Type 0
+GetsRoom =
+    (pool : List ℕ) (calls : List Call) (i : ℕ) (packet out : List ℕ) → Empty pool
+    → ToBeHeld (laneAt (reached pool calls) i) packet
     → wouldHold (laneAt (reached pool calls) i) packet ≤ laneAt (reached pool calls) i .settings .cap
     → max (wouldHold (laneAt (reached pool calls) i) packet) (laneAt (reached pool calls) i .settings .share) + others (reached pool calls .lanes) i ≤ 64
-    → reply (run (freshWith pool) calls) (takes i packet out) ≡ took (Refused 19) left → ⊥
+    → (m : ℕ) × ((gave : Bool) × (reply (run (freshWith pool) calls) (takes i packet out) ≡ took (Held m gave) out))
 
--- and gets the lowest-numbered free ones, in rising order, after a given-up group's are freed. Flags 1 keep none of the lane's blocks, flags 0 all
+-- and gets the lowest-numbered free blocks, in rising order, after a given-up group's are freed; every other block keeps its mark. Flags 1 keep none of
+-- the lane's blocks, flags 0 all
 abbrev pub freeBelow : List ℕ → ℕ → ℕ
 freeBelow marks b = count isFree (take b marks)
 
@@ -116,13 +129,16 @@ marksFor s i packet = cond (eqb (flags packet) 1) (freed (s .marks) i) (s .marks
 abbrev pub keeps : State → ℕ → List ℕ → ℕ
 keeps s i packet = cond (eqb (flags packet) 1) 0 (held (laneAt s i))
 
+-- the mark of a block that bore m, where k free blocks are below it and the lane, which keeps so many places, then holds h
+abbrev pub marked : ℕ → ℕ → ℕ → ℕ → ℕ → ℕ
+marked i m k kept h = cond (isFree m && ltb (kept + k) h) (mark i (kept + k)) m
+
 abbrev pub TakesLowest : Type 0
 TakesLowest =
-    (pool : List ℕ) (calls : List Call) (i : ℕ) (packet out left : List ℕ) (m : ℕ) (gave : Bool) (b : ℕ) → Empty pool
+    (pool : List ℕ) (calls : List Call) (i : ℕ) (packet out left : List ℕ) (m : ℕ) (gave : Bool) (b : ℕ) → Empty pool → b < 64
     → reply (run (freshWith pool) calls) (takes i packet out) ≡ took (Held m gave) left
-    → b < 64 → getD (marksFor (reached pool calls) i packet) b 0 ≡ free
-    → freeBelow (marksFor (reached pool calls) i packet) b + keeps (reached pool calls) i packet < held (laneAt (after (run (freshWith pool) calls) (takes i packet out) .state) i)
-    → markAt (after (run (freshWith pool) calls) (takes i packet out) .state) b ≡ mark i (keeps (reached pool calls) i packet + freeBelow (marksFor (reached pool calls) i packet) b)
+    → markAt (after (run (freshWith pool) calls) (takes i packet out) .state) b
+    ≡ marked i (getD (marksFor (reached pool calls) i packet) b 0) (freeBelow (marksFor (reached pool calls) i packet) b) (keeps (reached pool calls) i packet) (held (laneAt (after (run (freshWith pool) calls) (takes i packet out) .state) i))
 
 pub record Demand3 : Type 0 where
   pub as-alone : AsAlone
@@ -131,5 +147,5 @@ pub record Demand3 : Type 0 where
   pub none-lost : NoneLost
   pub only-its-own : OnlyItsOwn
   pub freed : Freed
-  pub has-room : HasRoom
+  pub gets-room : GetsRoom
   pub takes-lowest : TakesLowest

@@ -8,3 +8,4 @@ pub mod Leaving
 pub mod Counts
 pub mod Sums
 pub mod Matched
+pub mod Lowest

@@ -1,0 +1,203 @@
+-- Demand 3, of the blocks: every state that a run reaches is sound, so what holds of one sound state and of one call from there holds of the run.
+use Prim.Native.Nat.{ℕ, _+_, _/_, _≤_, _<_, max}
+use Prim.{Unit}
+use mathlib.Core.Path.{_≡_, refl, sym, ap, _∙_}
+use mathlib.Core.Bool.{Bool, true, false, not}
+use mathlib.Core.List.{List, map}
+use mathlib.Core.Logic.{⊎-elim}
+use native.Mathlib.Omega.{arith}
+use borrow.Author.Tests.{le-leb, le-ltb, lt-leb}
+use lib.Dec.{eqb, ltb, leb}
+use lib.ListN.{length, getD, set, length-map}
+use lib.Seq.{getD-set-same}
+use Rattle.octets.proofs.Order.{either}
+use Rattle.packet.specs.Space.{flags, count}
+use Rattle.pool.specs.Blocks.{free, mark, blocksFor, find}
+use Rattle.pool.specs.Octets.{place}
+use Rattle.pool.proofs.Finding.{bears}
+use Rattle.pool.proofs.Matched.{matched}
+use Rattle.lane.specs.declared.Lane.{Lane}
+use Rattle.lane.specs.declared.Added.{Added}
+use Rattle.lane.specs.declared.Step.{Step}
+use Rattle.lane.specs.declared.Step.the-variants as step
+use Rattle.lane.specs.declared.Plan.{Plan}
+use Rattle.lane.specs.Lane.{closed, held}
+use Rattle.lane.specs.Packets.{fault, userOctets}
+use Rattle.lane.specs.Grouping.{repeats, goesOn, addedFrom}
+use Rattle.lane.specs.Plans.{holdPlan, unitPlan, groupingPlan, acceptedPlan, packetPlan}
+use Rattle.lane.specs.Steps.{laneAfter}
+use Rattle.lane.proofs.Fine.{is-fine}
+use Rattle.lane.proofs.Planned.{of-either, held-most}
+use Rattle.intake.specs.declared.State.{State}
+use Rattle.intake.specs.declared.Answer.{Answer}
+use Rattle.intake.specs.declared.Answer.the-variants.{Held}
+use Rattle.intake.specs.State.{laneAt, others, unsound}
+use Rattle.intake.specs.Calls.{settle, packetStep}
+use Rattle.intake.specs.After.{marksAfter, userOf, answerOf, answered, taking}
+use Rattle.demands.specs.Runs.{Intake, freshWith, takes, took, reply, after, run, laneOf}
+use Rattle.demands.specs.Order.{wouldHold}
+use Rattle.demands.specs.Demand3.{markAt, Belongs, blockOf, freeBelow, marksFor, keeps, marked, WithinCap, NoBlockInTwo, NoneLost, OnlyItsOwn, Freed, ToBeHeld, GetsRoom, TakesLowest}
+use Rattle.demands.proofs.Sound.{Sound, lane-fine}
+use Rattle.demands.proofs.Marks.{kept, blocksKept, just-its-blocks}
+use Rattle.demands.proofs.Steps.{Stepped, stepped, group-grows}
+use Rattle.demands.proofs.Steps as now
+use Rattle.demands.proofs.Calls.{after-sound, reached}
+use Rattle.demands.proofs.Groups.{has-places}
+use Rattle.demands.proofs.View.{settled, took-reply, run-size}
+use Rattle.demands.proofs.Moves.{grown-marked, call-moves, none-belongs, freed-released}
+
+-- ---- No source ever holds more than its cap
+pub within-cap : WithinCap
+within-cap pool calls i size small =
+    let s : State = run (freshWith pool) calls .state in
+    let k : Sound s = reached pool calls in
+    (just-its-blocks s k i small .0, is-fine (laneAt s i) (lane-fine s k i) .within)
+
+-- ---- No block belongs to two sources
+-- an octet lies in the block that bears its place
+octet-belongs : (s : State) → Sound s → (i q : ℕ) → i < 8 → q < laneAt s i .octets → Belongs s (blockOf s i q) i
+unfolding place
+octet-belongs s k i q small h =
+    let m : ℕ = mark i (q / 256) in
+    let there = has-places s k i small q h in
+    let block : blockOf s i q ≡ find (s .marks) m = omega arith in
+    (omega (arith, k .shape .1), small, rw block (omega (arith, bears (s .marks) m there, held-most (laneAt s i) (lane-fine s k i) .1)))
+
+pub no-block-in-two : NoBlockInTwo
+no-block-in-two pool calls i j q r size hi hj hq hr =
+    let s : State = run (freshWith pool) calls .state in
+    let here : Belongs s (blockOf s i q) i = octet-belongs s (reached pool calls) i q hi hq in
+    let there : Belongs s (blockOf s j r) j = octet-belongs s (reached pool calls) j r hj hr in
+    (here, λ e. sym (here .2) ∙ ap (λ (b : ℕ). markAt s b / 64) e ∙ there .2)
+
+-- ---- no sequence of calls loses a block
+pub none-lost : NoneLost
+none-lost pool calls size =
+    let s : State = run (freshWith pool) calls .state in
+    let k : Sound s = reached pool calls in
+    matched (s .marks) (map held (s .lanes)) (k .shape .1) (length-map (s .lanes) held ∙ k .shape .0) (k .marks) .whole
+
+-- ---- a call moves blocks only between the free ones and its lane's
+pub only-its-own : OnlyItsOwn
+only-its-own pool calls c b size block = call-moves (run (freshWith pool) calls) (reached pool calls) c b block
+
+-- a block stays its lane's only where the lane has a group
+pub freed : Freed
+freed pool calls c b size its shut =
+    let x : Intake = run (freshWith pool) calls in
+    let next : Sound (after x c .state) = after-sound x (reached pool calls) c in
+    ⊎-elim (λ same. none-belongs (after x c .state) next (laneOf c) b (its .0, its .1, rw same (its .2)) shut)
+    (λ moved. ⊎-elim (λ e. e) (λ still. none-belongs (after x c .state) next (laneOf c) b still shut) (moved .1))
+    (only-its-own pool calls c b size (its .0))
+
+-- ---- a lane that needs blocks and has the room gets it
+module _ (l : Lane) (p : List ℕ) (room o : ℕ) where
+  abbrev HoldsThen : Step → Type 0
+  HoldsThen d = (a : Added) × ((on : Bool) × ((n : ℕ) × (d ≡ step.Hold a on n)))
+
+  -- a group of n octets for which there is room
+  has-room : (a : Added) (on : Bool) (n : ℕ) → blocksFor n ≤ l .settings .cap → max (blocksFor n) (l .settings .share) + o ≤ 64 → HoldsThen (settle o (holdPlan (l .settings) a on n))
+  unfolding holdPlan settle
+  has-room a on n most beside =
+      (a, (on, (n, simp (le-ltb (l .settings .cap) (blocksFor n) most, le-leb (max (blocksFor n) (l .settings .share) + o) 64 beside))))
+
+  gets : ToBeHeld l p → wouldHold l p ≤ l .settings .cap → max (wouldHold l p) (l .settings .share) + o ≤ 64 → HoldsThen (settle o (packetPlan l p room))
+  unfolding packetPlan acceptedPlan groupingPlan wouldHold
+  gets (opened, sound, new, few, kind) most beside =
+      simp (opened, sound, new, lt-leb 262144 (l .packets) few)
+      (⊎-elim (λ (f : flags p ≡ 1). simp f (has-room _ false _ (simp f at most) (simp f at beside)))
+      (λ (h : (flags p ≡ 0) × (goesOn l (flags p) (count p) ≡ true)).
+      let f : flags p ≡ 0 = h .0 in
+      let on : goesOn l 0 (count p) ≡ true = rw f at (h .1) in
+      simp (f, on) (has-room _ true _ (simp (f, on) at most) (simp (f, on) at beside)))
+      kind)
+
+pub gets-room : GetsRoom
+gets-room pool calls i p out size to-hold most beside =
+    let x : Intake = run (freshWith pool) calls in
+    let then = gets (laneAt (x .state) i) p (length out) (others (x .state .lanes) i) to-hold most beside in
+    let same = settled x (reached pool calls) (run-size (freshWith pool) calls ∙ size) i p out ∙ then .1 .1 .1 in
+    (then .0 .missing, (then .0 .broke, took-reply x i p out ∙ rw same))
+
+-- what was answered is what the step tells
+step-told : (x : Intake) (i : ℕ) (p out left : List ℕ) (a : Answer) → reply x (takes i p out) ≡ took a left
+    → answerOf (packetStep (x .state) i p (length (x .pool)) (length out)) ≡ a
+unfolding reply taking
+step-told x i p out left a e = cc
+
+-- ---- flags 1 begin a group and flags 0 go on with one: a step that holds goes on unless the flags are 1
+abbrev Flagged : List ℕ → Step → Type 0
+Flagged p (step.Refuse k) = Unit {0}
+Flagged p step.Repeat = Unit {0}
+Flagged p (step.Stray a) = Unit {0}
+Flagged p (step.Hold a on n) = on ≡ not (eqb (flags p) 1)
+Flagged p (step.Unit a on n) = Unit {0}
+
+module _ (o : ℕ) (l : Lane) (p : List ℕ) (room : ℕ) where
+  abbrev Says : Plan → Type 0
+  Says d = Flagged p (settle o d)
+
+  to-hold : (a : Added) (on : Bool) (n : ℕ) → on ≡ not (eqb (flags p) 1) → Says (holdPlan (l .settings) a on n)
+  unfolding holdPlan settle
+  to-hold a on n e =
+      of-either Says (ltb (l .settings .cap) (blocksFor n)) (λ f. tt)
+      (λ f. of-either (Flagged p) (leb (max (blocksFor n) (l .settings .share) + o) 64) (λ g. e) (λ g. tt))
+
+  to-end : (a : Added) (on : Bool) (n : ℕ) → Says (unitPlan room a on n)
+  unfolding unitPlan settle
+  to-end a on n = of-either Says (ltb room n) (λ f. tt) (λ f. tt)
+
+  plan-flagged : Says (packetPlan l p room)
+  unfolding packetPlan acceptedPlan groupingPlan settle
+  plan-flagged =
+      let user : ℕ = userOctets (l .settings) p in
+      let a : Added = addedFrom l (flags p) (count p) in
+      of-either Says (not (l .opened)) (λ e. tt)
+      (λ e. of-either Says (not (eqb (fault (l .settings) p) 0)) (λ e. tt)
+      (λ e. of-either Says (repeats l (count p)) (λ e. tt)
+      (λ e. of-either Says (leb 262144 (l .packets)) (λ e. tt)
+      (λ e. of-either Says (eqb (flags p) 3) (λ e. to-end a false user)
+      (λ e. of-either Says (eqb (flags p) 1) (λ f. to-hold a false user (simp f))
+      (λ f. of-either Says (not (goesOn l (flags p) (count p))) (λ e. tt)
+      (λ e. of-either Says (eqb (flags p) 0) (λ e. to-hold a true (l .octets + user) (simp f)) (λ e. to-end a true (l .octets + user)))))))))
+
+step-flagged : (s : State) (i : ℕ) (p : List ℕ) (octets room : ℕ) → Flagged p (packetStep s i p octets room)
+unfolding packetStep
+step-flagged s i p octets room = of-either (Flagged p) (unsound s octets) (λ e. tt) (λ e. plan-flagged (others (s .lanes) i) (laneAt s i) p room)
+
+-- ---- and gets the lowest-numbered free blocks
+module _ (s : State) (k : Sound s) (i : ℕ) (p : List ℕ) where
+  -- what is kept by the flags is what the step keeps
+  kept-by-flags : i < 8 → (on : Bool) → on ≡ not (eqb (flags p) 1)
+      → (marksFor s i p ≡ kept (s .marks) i (laneAt s i) on) × (keeps s i p ≡ blocksKept (s .marks) i (laneAt s i) on)
+  kept-by-flags small on e =
+      either (eqb (flags p) 1)
+      (λ f. let off : on ≡ false = simp f at e in simp (f, off) (freed-released s k i small, refl))
+      (λ f. let goes : on ≡ true = simp f at e in simp (f, goes) (refl, refl))
+
+  module _ (octets room b : ℕ) (block : b < 64) where
+    abbrev Lowest : Step → Type 0
+    Lowest d =
+        getD (answered s i d .state .marks) b 0
+        ≡ marked i (getD (marksFor s i p) b 0) (freeBelow (marksFor s i p) b) (keeps s i p) (held (laneAt (answered s i d .state) i))
+
+    held-lowest : {d : Step} {m : ℕ} {gave : Bool} → Stepped s i p octets room d → Flagged p d → answerOf d ≡ Held m gave → Lowest d
+    unfolding marksAfter laneAfter
+    held-lowest (now.refuses n h t) flagged told = cc
+    held-lowest now.repeats flagged told = cc
+    held-lowest (now.strays a f) flagged told = cc
+    held-lowest (now.ends a on n f e h) flagged told = cc
+    held-lowest (now.holds a on n f e) flagged told =
+        let g = group-grows s k i a on n (length (userOf s i p)) f e in
+        let same = kept-by-flags (f .small) on flagged in
+        let next : Lane = laneAfter (laneAt s i) (step.Hold a on n) in
+        let here : getD (set (s .lanes) i next) i closed ≡ next = getD-set-same (s .lanes) i next closed (omega (arith, k .shape .0, f .small)) in
+        rw (same .0, same .1, here) (grown-marked s k i b block (f .small) on n (g .0) (g .1))
+
+pub takes-lowest : TakesLowest
+unfolding after taking
+takes-lowest pool calls i p out left m gave b size block e =
+    let x : Intake = run (freshWith pool) calls in
+    let k : Sound (x .state) = reached pool calls in
+    held-lowest (x .state) k i p (length (x .pool)) (length out) b block (stepped (x .state) k i p (length (x .pool)) (length out))
+    (step-flagged (x .state) i p (length (x .pool)) (length out)) (step-told x i p out left (Held m gave) e)
