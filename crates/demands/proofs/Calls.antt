@@ -81,12 +81,15 @@ module _ (s : State) (k : Sound s) (i : ℕ) where
         simp shut at (emptied s k i (o .0) (openedWith settings) (opened-fine settings (o .2))
         (omega (arith, need-open (openedWith settings) refl, none-held, total-at (s .lanes) i (omega (arith, k .shape .0, o .0)), o .3)) refl))
 
-  pub closed-small : (octets room : ℕ) → closingRefusal s i octets room ≡ 0 → i < 8
+  pub closed-at : (octets room : ℕ) → closingRefusal s i octets room ≡ 0 → laneAt s i .opened ≡ true
   unfolding closingRefusal
-  closed-small octets room e =
+  closed-at octets room e =
       let a = passes (unsound s octets) 24 _ (λ t. omega arith) e in
       let b = passes (not (laneAt s i .opened)) 11 _ (λ t. omega arith) (a .1) in
-      opened-small s k i (not-false _ (b .0))
+      not-false _ (b .0)
+
+  pub closed-small : (octets room : ℕ) → closingRefusal s i octets room ≡ 0 → i < 8
+  closed-small octets room e = opened-small s k i (closed-at octets room e)
 
   pub closing-sound : (octets room : ℕ) → Sound (closing s i octets room .state)
   unfolding closing

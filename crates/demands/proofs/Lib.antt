@@ -10,5 +10,9 @@ pub mod Groups
 pub mod Moves
 pub mod View
 pub mod Alone
+pub mod Ruled
+pub mod Followed
+pub mod Demand2
 pub mod Laws
 pub mod Shared
+pub mod Demand3

@@ -20,7 +20,7 @@ use Rattle.writing.specs.Carries.{IsShortest}
 use Rattle.record.specs.Record.{recordSize, unitsIn}
 use Rattle.record.specs.Reading.{recordReading}
 use Rattle.record.specs.Writing.{writingRefusal}
-use Rattle.record.specs.Told.{fields, toldRead, octetsOf, afterOf}
+use Rattle.record.specs.Told.{toldRead, octetsOf, afterOf}
 use Rattle.record.specs.declared.Record.{Record}
 use Rattle.record.specs.declared.RecordRead.the-variants.{Fields}
 use Rattle.pool.specs.Blocks.{poolOctets}

@@ -1,0 +1,218 @@
+-- A packet that comes to the lane of a past: what is planned from the lane alone is the grouping rule's word on the packets accepted. The lane's
+-- missing, breaks and goesOn are the rule's, and one law says what a counted packet makes of the lane.
+use Prim.Native.Nat.{ℕ, _+_, _≤_, max}
+use mathlib.Core.Path.{_≡_, refl, sym, subst, _∙_}
+use mathlib.Core.Bool.{Bool, true, false, cond, not, _&&_, true≢false}
+use mathlib.Core.List.{List, [], _∷_, _++_}
+use mathlib.Core.Logic.{_⊎_, inl, inr}
+use mathlib.Core.Option.{Option, none, some}
+use native.Mathlib.Numerals.{add-one}
+use native.Mathlib.Omega.{arith}
+use borrow.Author.Tests.{eqb-true, eqb-false, not-true, not-false}
+use lib.Dec.{eqb, ltb, leb, eqb·suc-zero}
+use lib.ListN.{length, length-append}
+use Rattle.octets.specs.Octets.{one}
+use Rattle.octets.proofs.Order.{either}
+use Rattle.packet.specs.Space.{flags, count}
+use Rattle.pool.specs.Blocks.{blocksFor}
+use Rattle.lane.specs.declared.Settings.{Settings}
+use Rattle.lane.specs.declared.Lane.{Lane}
+use Rattle.lane.specs.declared.Added.{Added}
+use Rattle.lane.specs.declared.Step.{Step}
+use Rattle.lane.specs.declared.Step.the-variants.{Refuse, Repeat, Stray}
+use Rattle.lane.specs.declared.Plan.{Plan}
+use Rattle.lane.specs.declared.Plan.the-variants.{Sure}
+use Rattle.lane.specs.Packets.{fault, userData}
+use Rattle.lane.specs.Grouping.{missingBefore, goesOn, addedFrom}
+use Rattle.lane.specs.Grouping as lane
+use Rattle.lane.specs.Plans.{holdPlan, unitPlan, groupingPlan, acceptedPlan, packetPlan}
+use Rattle.lane.specs.Steps.{counted, laneAfter}
+use Rattle.lane.proofs.Accepted.{accepted-data}
+use Rattle.lane.proofs.Planned.{of-either}
+use Rattle.intake.specs.Calls.{settle}
+use Rattle.intake.specs.After.{answerOf}
+use Rattle.demands.specs.Runs.{Call, takes, Reply, took}
+use Rattle.demands.specs.Rule.{Accepted, present, octetsIn, joined, repeats, missing, breaks, group, unit, givesUp}
+use Rattle.demands.specs.Rule.{answerWith, answerTo, endings, units, missingInAll, broken, lastCount}
+use Rattle.demands.specs.Past.{Past, shut, since, packetsOf, acceptedOf, isRefused, later}
+use Rattle.demands.specs.Demand2.{laneFrom, written, ruled}
+use Rattle.demands.proofs.View.{Slot, slotAfter, outFrom}
+
+-- a lane with its group, by the rule
+abbrev pub slotFrom : Past → Slot
+slotFrom past = record { lane = laneFrom past; group = octetsIn (group (packetsOf past)) }
+
+-- a reply is a refusal, or the rule's
+abbrev pub Right : Past → Call → Reply → Type 0
+Right past c r = (isRefused r ≡ true) ⊎ (ruled past c ≡ some r)
+
+-- after a call that was replied r the lane is v: both are the rule's
+abbrev pub Follows : Past → Call → Slot → Reply → Type 0
+Follows past c v r = (v ≡ slotFrom (later past c r)) × Right past c r
+
+-- the same of a packet's step in lane v
+abbrev Steps : Past → Slot → ℕ → List ℕ → List ℕ → Step → Type 0
+Steps past v i p out d = Follows past (takes i p out) (slotAfter v p d) (took (answerOf d) (outFrom (v .group) (userData (v .lane .settings) p) d out))
+
+refused : (past : Past) (i : ℕ) (p out : List ℕ) (number : ℕ) → Steps past (slotFrom past) i p out (Refuse number)
+unfolding laneAfter
+refused past i p out number = (refl, inl refl)
+
+-- ---- the group g that is left, if b doesn't break it, and user data u
+ended : (g : Option (List ℕ)) (b : Bool) (u : List ℕ) → present g && not b ≡ false → joined (cond b none g) u ≡ none
+ended none true u e = refl
+ended none false u e = refl
+ended (some octets) true u e = refl
+ended (some octets) false u e = absurd (true≢false e)
+
+goes-on : (g : Option (List ℕ)) (b : Bool) (u : List ℕ) → present g && not b ≡ true → joined (cond b none g) u ≡ some (octetsIn g ++ u)
+goes-on none b u e = absurd (true≢false (sym e))
+goes-on (some octets) true u e = absurd (true≢false (sym e))
+goes-on (some octets) false u e = refl
+
+none-either : (b : Bool) → cond {A = Option (List ℕ)} b none none ≡ none
+none-either true = refl
+none-either false = refl
+
+-- ---- one more accepted packet q
+module _ (ps : List Accepted) (q : Accepted) where
+  -- what it adds to the tallies
+  abbrev added : Added
+  added = record { missing = missing ps q; broke = givesUp ps q; count = q .count }
+
+  pub units-more : units (q ∷ ps) ≡ units ps + one (present (unit ps q))
+  unfolding endings one
+  units-more = either (present (unit ps q)) (λ e. simp e (omega arith)) (λ e. simp e (omega arith))
+
+  -- the lane after it, if it makes the unit u and leaves the group g
+  abbrev counting : Settings → Option (List ℕ) → Option (List ℕ) → Slot
+  counting s u g = record { lane = counted (laneFrom (since s ps)) added (one (present u)) (present g) (length (octetsIn g)); group = octetsIn g }
+
+  grown : (s : Settings) (u g : Option (List ℕ)) → u ≡ unit ps q → g ≡ group (q ∷ ps) → counting s u g ≡ slotFrom (since s (q ∷ ps))
+  unfolding missingInAll broken lastCount
+  grown s u g e f = rw (e, f, units-more, add-one)
+
+-- ---- a packet p that comes to the lane; counts are below 16,384
+module _ (s : Settings) (ps : List Accepted) (small : lastCount ps ≤ 16383) (i : ℕ) (p out : List ℕ) where
+  abbrev l : Lane
+  l = laneFrom (since s ps)
+
+  abbrev q : Accepted
+  q = acceptedOf s p
+
+  -- a step, and a plan, however it is settled
+  abbrev Does : Step → Type 0
+  Does = Steps (since s ps) (slotFrom (since s ps)) i p out
+
+  abbrev Plans : Plan → Type 0
+  Plans d = (sum : ℕ) → Does (settle sum d)
+
+  refuses : (number : ℕ) → Does (Refuse number)
+  refuses = refused (since s ps) i p out
+
+  -- the tests on the lane are the rule's
+  repeats-same : lane.repeats l (count p) ≡ repeats ps q
+  unfolding lane.repeats repeats lastCount
+  repeats-same = of-list ps
+    where
+      of-list : (ps : List Accepted) → lane.repeats (laneFrom (since s ps)) (count p) ≡ repeats ps q
+      of-list [] = refl
+      of-list (last ∷ before) = rw (eqb·suc-zero (length before))
+
+  missing-same : missingBefore l (count p) ≡ missing ps q
+  unfolding missingBefore missing lastCount
+  missing-same = of-list ps small
+    where
+      of-list : (ps : List Accepted) → lastCount ps ≤ 16383 → missingBefore (laneFrom (since s ps)) (count p) ≡ missing ps q
+      of-list [] h = refl
+      of-list (last ∷ before) h = rw (eqb·suc-zero (length before)) (omega arith)
+
+  breaks-same : lane.breaks (missingBefore l (count p)) (flags p) ≡ breaks ps q
+  unfolding lane.breaks breaks
+  breaks-same = rw missing-same
+
+  added-same : addedFrom l (flags p) (count p) ≡ added ps q
+  unfolding lane.givesUp givesUp
+  added-same = rw (breaks-same, missing-same)
+
+  module _ (new : repeats ps q ≡ false) where
+    -- the lane then, and the rule's word on the packet
+    accepts : (u g : Option (List ℕ)) → u ≡ unit ps q → g ≡ group (q ∷ ps)
+        → (counting ps q s u g ≡ slotFrom (since s (q ∷ ps))) × Right (since s ps) (takes i p out) (took (answerWith u g (missing ps q) (givesUp ps q)) (written out u))
+    unfolding answerTo
+    accepts u g e f = (grown ps q s u g e f, inr (simp (new, e, f)))
+
+    strays : none ≡ unit ps q → none ≡ group (q ∷ ps) → Plans (Sure (Stray (added ps q)))
+    unfolding settle laneAfter one
+    strays e f sum = accepts none none e f
+
+    -- the group, if it goes on, and the user data
+    abbrev whole : Bool → List ℕ
+    whole on = cond on (octetsIn (group ps)) [] ++ q .user
+
+    module _ (on : Bool) where
+      abbrev n : ℕ
+      n = length (whole on)
+
+      holds : none ≡ unit ps q → some (whole on) ≡ group (q ∷ ps) → Plans (holdPlan s (added ps q) on n)
+      unfolding holdPlan settle laneAfter one
+      holds e f =
+          of-either Plans (ltb (s .cap) (blocksFor n)) (λ t sum. refuses 19)
+          (λ t sum. of-either Does (leb (max (blocksFor n) (s .share) + sum) 64)
+          (λ r. accepts none (some (whole on)) e f) (λ r. refuses 19))
+
+      ends : some (whole on) ≡ unit ps q → none ≡ group (q ∷ ps) → Plans (unitPlan (length out) (added ps q) on n)
+      unfolding unitPlan settle laneAfter one
+      ends e f = of-either Plans (ltb (length out) n) (λ t sum. refuses 20) (λ t sum. accepts (some (whole on)) none e f)
+
+    -- by the flags, and whether the open group goes on
+    abbrev goes : Bool
+    goes = goesOn l (flags p) (count p)
+
+    goes-same : goes ≡ present (group ps) && not (breaks ps q)
+    unfolding goesOn
+    goes-same = rw breaks-same
+
+    abbrev left : Option (List ℕ)
+    left = joined (cond (breaks ps q) none (group ps)) (q .user)
+
+    grouping : Plans (groupingPlan l (flags p) (count p) (length (q .user)) (length out))
+    unfolding groupingPlan unit group
+    grouping =
+        rw added-same
+        (of-either Plans (eqb (flags p) 3) (λ f. let e = eqb-true (flags p) 3 f in ends false (simp e) (simp e))
+        (λ no3. of-either Plans (eqb (flags p) 1) (λ f. let e = eqb-true (flags p) 1 f in holds false (simp e) (simp e))
+        (λ no1. of-either Plans (not goes)
+        (λ g.
+        let e : left ≡ none = ended (group ps) (breaks ps q) (q .user) (sym goes-same ∙ not-true goes g) in
+        strays (simp (no3, e, none-either)) (simp (no1, e, none-either)))
+        (λ g.
+        let e : left ≡ some (whole true) = goes-on (group ps) (breaks ps q) (q .user) (sym goes-same ∙ not-false goes g) in
+        rw (← length-append (octetsIn (group ps)) (q .user))
+        (of-either Plans (eqb (flags p) 0) (λ f. let z = eqb-true (flags p) 0 f in holds true (simp z) (rw e (simp z)))
+        (λ no0.
+        let z : flags p ≡ 2 = omega (arith, eqb-false (flags p) 3 no3, eqb-false (flags p) 1 no1, eqb-false (flags p) 0 no0) in
+        ends true (rw e (simp z)) (simp z)))))))
+
+  repeated : repeats ps q ≡ true → Plans (Sure Repeat)
+  unfolding settle laneAfter
+  repeated e sum = (refl, inr (simp e))
+
+  planned : Plans (packetPlan l p (length out))
+  unfolding packetPlan acceptedPlan settle
+  planned =
+      of-either Plans (not (eqb (fault s p) 0)) (λ e sum. refuses (fault s p))
+      (λ e. of-either Plans (lane.repeats l (count p)) (λ f. repeated (sym repeats-same ∙ f))
+      (λ f. of-either Plans (leb 262144 (length ps)) (λ g sum. refuses 18)
+      (λ g. rw (← accepted-data s p (eqb-true _ _ (not-false _ e)) .1) (grouping (sym repeats-same ∙ f)))))
+
+-- ---- so of every past, where lane v is the past's; a closed one refuses
+pub packet-follows : (past : Past) (v : Slot) → v ≡ slotFrom past → v .lane .last ≤ 16383 → (i : ℕ) (p out : List ℕ) (sum : ℕ)
+    → Steps past v i p out (settle sum (packetPlan (v .lane) p (length out)))
+unfolding packetPlan settle
+packet-follows past v same few i p out sum =
+    subst (λ (v : Slot). v .lane .last ≤ 16383 → Steps past v i p out (settle sum (packetPlan (v .lane) p (length out)))) (sym same) (of-past past) few
+  where
+    of-past : (past : Past) → laneFrom past .last ≤ 16383 → Steps past (slotFrom past) i p out (settle sum (packetPlan (laneFrom past) p (length out)))
+    of-past shut h = refused shut i p out 11
+    of-past (since s ps) h = planned s ps h i p out sum
