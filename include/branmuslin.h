@@ -1,16 +1,17 @@
 /*
- * branmuslin.h: reads and writes CCSDS Space Packets (133.0-B-2), Encapsulation Packets (133.1-B-2) and credit records.
+ * branmuslin.h: reads and writes CCSDS Space Packets (133.0-B-2), Encapsulation Packets (133.1-B-2) and credit records, and joins grouped
+ * packets into whole units for up to eight lanes that share one pool of memory.
  *
  * A static library for Linux on x86-64, for programs and shared objects; the flags stand after the source files:
- * cc program.c $(pkg-config --cflags --libs branmuslin). It needs no other library, allocates nothing, keeps nothing between calls and has no
- * state: any thread may call it at any time.
+ * cc program.c $(pkg-config --cflags --libs branmuslin). It needs no other library, allocates nothing and keeps nothing between calls: the state
+ * of the lanes is a struct that you hand in and get back, and the pool is memory that you lend. Any thread may call it at any time.
  *
  * What holds for every function:
  *
- * - It takes every input of every length, and returns. It returns 0, or the number of the refusal (below); where several causes hold, the
+ * - It takes every input of every length, and returns. It tells 0, or the number of the refusal (below); where several causes hold, the
  *   first in the order that stands at the function.
- * - A call that is refused leaves everything that was lent to it as it was: the output, the struct and every number behind a pointer.
- *   (One exception, by its purpose: *index of branmuslin_read_record_file, which belongs to refusal 25.)
+ * - A call that is refused leaves everything that was lent to it as it was: the output, the pool, the struct and every number behind a pointer;
+ *   and a state comes back as it was handed in. (One exception, by its purpose: *index of branmuslin_read_record_file, which belongs to refusal 25.)
  * - Pointers must not be null. A length of 0 needs no valid octets, but a pointer that is not null all the same: what malloc(0) or an empty
  *   std::vector gives may be null.
  * - What is lent to one call must not overlap: input, output, struct and numbers are separate memory (parts of one array that do not
@@ -20,6 +21,7 @@
 #ifndef BRANMUSLIN_H
 #define BRANMUSLIN_H
 
+#include <stdbool.h>
 #include <stddef.h>
 #include <stdint.h>
 
@@ -50,6 +52,21 @@ enum {
     BRANMUSLIN_OVER_WIDTH = 8,     /* a field given to a packet's writer is over its width */
     BRANMUSLIN_NO_ROOM = 9,        /* the output is too short for the packet or record */
     BRANMUSLIN_DATA_LENGTH = 10,   /* data to write: none, or over 65,536 octets (Space); a packet over 65,542 octets (Encapsulation) */
+    BRANMUSLIN_NOT_OPEN = 11,      /* the lane number is over 7, or the lane is not open (except at opening) */
+    BRANMUSLIN_OCTETS_AFTER = 12,  /* octets after the packet */
+    BRANMUSLIN_NOT_SPACE = 13,     /* an Encapsulation Packet sent to a lane */
+    BRANMUSLIN_NOT_TELEMETRY = 14, /* type 1 */
+    BRANMUSLIN_OTHER_APID = 15,    /* the APID is not the lane's */
+    BRANMUSLIN_FLAG_DIFFERS = 16,  /* the secondary header flag is set and the lane's secondary length is 0, or clear and it isn't */
+    BRANMUSLIN_UNDER_SECONDARY = 17, /* the data field is shorter than the secondary length */
+    BRANMUSLIN_LANE_FULL = 18,     /* the lane has taken 262,144 packets */
+    BRANMUSLIN_NO_BLOCKS = 19,     /* no room in the pool: the group would exceed the lane's cap, or what it and the other lanes hold or are
+                                      promised would exceed 64 blocks */
+    BRANMUSLIN_UNIT_TOO_LONG = 20, /* the output is shorter than the finished unit */
+    BRANMUSLIN_ALREADY_OPEN = 21,  /* the lane is already open */
+    BRANMUSLIN_BAD_SETTINGS = 22,  /* apid over 2046, secondary over 63, share over cap, or cap over 64 */
+    BRANMUSLIN_NOT_PROMISED = 23,  /* the share can't be promised */
+    BRANMUSLIN_NOT_SOUND = 24,     /* the state is not sound, or the pool does not have 16,384 octets */
     BRANMUSLIN_NOT_POSSIBLE = 25,  /* the record is not possible */
     BRANMUSLIN_NOT_RECORDS = 26    /* a record file that is not a multiple of 20 octets, or a single record that is not 20 */
 };
@@ -178,6 +195,118 @@ uint8_t branmuslin_read_record(const uint8_t *octets, size_t octets_length, stru
  *   25  some record is not possible; *index is set to the index of the first such record, counted from 0.
  */
 uint8_t branmuslin_read_record_file(const uint8_t *octets, size_t octets_length, size_t *records, size_t *index) BRANMUSLIN_NOT_NULL;
+
+/*
+ * The lanes. A lane is one source (APID) as uploaded by one station. Up to eight share a pool of 64 blocks of 256 octets, in which their open groups
+ * lie. A lane is promised its share of blocks, and may hold more, up to its cap, where the others leave room.
+ *
+ *     static uint8_t pool[BRANMUSLIN_POOL_LENGTH];
+ *     struct branmuslin_state state = branmuslin_fresh_start();
+ *     struct branmuslin_change change = branmuslin_open_lane(state, 0, settings, pool, sizeof pool);
+ *     state = change.state;
+ *     for (each packet) {
+ *         struct branmuslin_answer answer = branmuslin_take_packet(state, 0, packet, n, pool, sizeof pool, unit, sizeof unit);
+ *         state = answer.state;
+ *         if (answer.kind == BRANMUSLIN_UNIT)
+ *             use(unit, answer.octets);
+ *     }
+ *     state = branmuslin_close_lane(state, 0, pool, sizeof pool, record, sizeof record).state;
+ */
+#define BRANMUSLIN_LANES 8
+#define BRANMUSLIN_BLOCKS 64
+#define BRANMUSLIN_POOL_LENGTH 16384
+
+/* Octets of the longest unit: an output of this length always suffices for a packet's. */
+#define BRANMUSLIN_LONGEST_UNIT 81920
+
+/* The most packets that a lane takes from its opening to its closing. */
+#define BRANMUSLIN_MOST_PACKETS 262144
+
+/* What an opening gives a lane. */
+struct branmuslin_settings {
+    uint16_t station;   /* station number */
+    uint16_t apid;      /* 0 to 2046: whose packets the lane takes */
+    uint8_t secondary;  /* octets of the secondary header, 0 to 63; 0 where its packets have none */
+    uint8_t share;      /* blocks that the lane is promised, at most cap */
+    uint8_t cap;        /* the most blocks that it may hold, at most 64 */
+};
+
+/* One lane, to look at. A closed lane is all 0. */
+struct branmuslin_lane {
+    bool opened;
+    struct branmuslin_settings settings;
+    uint32_t units;     /* the tallies since the opening, as in struct branmuslin_record */
+    uint32_t packets;
+    uint32_t missing;
+    uint32_t broken;
+    uint16_t last;      /* the count of the last accepted packet, where packets is not 0 */
+    bool grouped;       /* whether a group is open */
+    uint16_t octets;    /* of the open group */
+};
+
+/*
+ * The state of all lanes: 416 octets, by value. Hand each call the state that the last one gave back, with the same pool, and change neither in between. A
+ * state or a pool that was kept elsewhere may be used again together; a state that is not sound is refused (24), but only you can know whether the
+ * pool is the one that belongs to it.
+ */
+struct branmuslin_state {
+    struct branmuslin_lane lanes[BRANMUSLIN_LANES];
+    uint16_t marks[BRANMUSLIN_BLOCKS]; /* whose each block is: 512 if it is free, else lane x 64 + place in the lane's group */
+};
+
+/* What an opening or a closing gives back. */
+struct branmuslin_change {
+    uint8_t refusal;    /* 0, or the number of the refusal */
+    struct branmuslin_state state;
+};
+
+/* What a packet is answered. */
+enum { BRANMUSLIN_REFUSED = 0, BRANMUSLIN_REPEAT = 1, BRANMUSLIN_STRAY = 2, BRANMUSLIN_HELD = 3, BRANMUSLIN_UNIT = 4 };
+
+struct branmuslin_answer {
+    uint8_t refusal;    /* 0, or the number of the refusal */
+    uint8_t kind;       /* refused; a repeat of the last packet; of no group; held in the pool; a unit, which lies at the front of the output */
+    bool given_up;      /* whether an open group was given up */
+    uint16_t missing;   /* packets missing between the last accepted one and this */
+    size_t octets;      /* of the unit; 0 for every other kind */
+    struct branmuslin_state state;
+};
+
+/* Eight closed lanes. Refuses nothing. What lies in the pool then does not matter. */
+struct branmuslin_state branmuslin_fresh_start(void);
+
+/*
+ * Whether the state is sound, which every state is that the calls give back from a fresh start: open lanes' settings are legal, what the lanes hold or
+ * are promised is at most 64 blocks, each lane's blocks match its octets and cap, no block is held twice, a closed lane holds nothing, last is at
+ * most 16,383, and the tallies, counting an open group as broken, form a possible record.
+ */
+bool branmuslin_is_sound(struct branmuslin_state state);
+
+/*
+ * Opens a lane, with its tallies at 0. The pool is not changed.
+ *
+ * Refusals, in this order: 24, 11 (lane over 7), 21, 22, 23 (the share and what the open lanes hold or are promised exceed 64).
+ */
+struct branmuslin_change branmuslin_open_lane(struct branmuslin_state state, size_t lane, struct branmuslin_settings settings, const uint8_t *pool,
+                                              size_t pool_length) BRANMUSLIN_NOT_NULL;
+
+/*
+ * Gives a lane one packet: all of the octets. A packet that begins a group or adds to it is held in the pool; a last one ends the unit, which is written
+ * at the front of the output, as is an unsegmented one. Octets of the output after the unit stay as they were, and so does all of it for other answers.
+ *
+ * Refusals, in this order: 24, 11, those of branmuslin_read_packet, 12 to 17, (here a repeat is answered,) 18, 19, 20. A packet that is refused counts as
+ * not received: it may be given again, for instance with a longer output.
+ */
+struct branmuslin_answer branmuslin_take_packet(struct branmuslin_state state, size_t lane, const uint8_t *packet, size_t packet_length, uint8_t *pool,
+                                                size_t pool_length, uint8_t *output, size_t output_length) BRANMUSLIN_NOT_NULL;
+
+/*
+ * Closes a lane: gives up an open group, writes the credit record (20 octets) at the front of the output and frees the lane. The pool is not changed.
+ *
+ * Refusals, in this order: 24, 11, 9 (the output is shorter than 20 octets), 25.
+ */
+struct branmuslin_change branmuslin_close_lane(struct branmuslin_state state, size_t lane, const uint8_t *pool, size_t pool_length, uint8_t *output,
+                                               size_t output_length) BRANMUSLIN_NOT_NULL;
 
 #ifdef __cplusplus
 }
