@@ -17,7 +17,7 @@ use Rattle.record.proofs.RoundTrip.{read-output, write-read}
 use Rattle.writing.proofs.RoundTrips.{space-output, encap-output, space-written, encap-written}
 use Rattle.lane.proofs.Fine.{Tallies, is-fine}
 use Rattle.intake.specs.State.{laneAt}
-use Rattle.demands.specs.Runs.{Intake, freshWith, closes, closed, run, laneOf}
+use Rattle.demands.specs.Runs.{Intake, freshWith, closes, toClosing, run, laneOf}
 use Rattle.demands.specs.Rule.{units, credit}
 use Rattle.demands.specs.Past.{Past, shut, since, packetsOf, isRefused, pastOf, unitsTold}
 use Rattle.demands.specs.Demand2.{SpaceGivenBack, EncapsulationGivenBack, RecordGivenBack, SpaceWrittenAgain, EncapsulationWrittenAgain, RecordWrittenAgain}
@@ -64,7 +64,7 @@ unfolding put recordOctets
 units-written r out h = read-four (r .units) h
 
 -- a closing that isn't refused writes the units of its past, of which there are no more than packets
-credited-units : (past : Past) (i : ℕ) (out credited : List ℕ) → Tallies (laneFrom past) → ruled past (closes i out) ≡ some (closed 0 credited)
+credited-units : (past : Past) (i : ℕ) (out credited : List ℕ) → Tallies (laneFrom past) → ruled past (closes i out) ≡ some (toClosing 0 credited)
     → (unitsIn credited ≡ units (packetsOf past)) × (units (packetsOf past) ≤ length (packetsOf past))
 credited-units shut i out credited t e = absurd (let z : _≡_ {A = ℕ} 0 1 = cc in omega arith)
 credited-units (since s ps) i out credited t e =
@@ -77,7 +77,7 @@ credit-needs-units pool calls i n out credited size e told =
     let past : Past = pastOf i (freshWith pool) calls in
     let h : At i x past (unitsTold i (freshWith pool) calls) = reached-at i pool size calls in
     let t : Tallies (laneFrom past) = subst (λ (v : Slot). Tallies (v .lane)) (h .slot) (is-fine (laneAt (x .state) i) (lane-fine (x .state) (h .sound) i) .tallies) in
-    let r : ruled past (closes i out) ≡ some (closed 0 credited) =
+    let r : ruled past (closes i out) ≡ some (toClosing 0 credited) =
       ⊎-elim (λ z. absurd (true≢false (sym z ∙ ap isRefused e))) (λ z. z ∙ ap some e) (replies-are-the-rules pool calls (closes i out) size) in
     let u = credited-units past i out credited t r in
     (sym (u .0) ∙ told, omega (arith, u .0, u .1, told), h .told ∙ sym (u .0) ∙ told)

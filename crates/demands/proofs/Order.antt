@@ -1,7 +1,7 @@
 -- A packet's step gives the refusal that the one list of tests gives: the plan is followed test by test, and what is left over, the two tests for 19
 -- and the one for 20, fails where the answer isn't of that kind.
 use Prim.Native.Nat.{ℕ, _+_, _≤_, max}
-use mathlib.Core.Path.{_≡_, refl, sym, ap, _∙_}
+use mathlib.Core.Path.{_≡_, refl, sym, _∙_}
 use mathlib.Core.Bool.{Bool, true, false, cond, not, _&&_}
 use mathlib.Core.List.{List, [], _∷_, _++_}
 use native.Mathlib.Omega.{arith}

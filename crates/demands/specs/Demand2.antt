@@ -28,7 +28,7 @@ use Rattle.lane.specs.declared.Lane.{Lane}
 use Rattle.lane.specs.Lane as lane
 use Rattle.intake.specs.declared.Answer.the-variants.{Repeat}
 use Rattle.intake.specs.State.{laneAt}
-use Rattle.demands.specs.Runs.{freshWith, Call, opens, takes, closes, Reply, opened, took, closed, reply, run, laneOf}
+use Rattle.demands.specs.Runs.{freshWith, Call, opens, takes, closes, Reply, toOpening, toPacket, toClosing, reply, run, laneOf}
 use Rattle.demands.specs.Groups.{groupIn}
 use Rattle.demands.specs.Rule.{present, octetsIn, repeats, group, unit, answerTo, endings, units, missingInAll, broken, lastCount, credit}
 use Rattle.demands.specs.Past.{Past, shut, since, packetsOf, acceptedOf, isRefused, pastOf, unitsTold}
@@ -81,13 +81,13 @@ written out (some octets) = put out 0 octets
 
 -- what a call is replied if it isn't refused, by the grouping rule; none where it must be refused
 abbrev pub ruled : Past → Call → Option Reply
-ruled shut (opens i settings) = some (opened 0)
+ruled shut (opens i settings) = some (toOpening 0)
 ruled shut (takes i packet out) = none
 ruled shut (closes i out) = none
 ruled (since settings packets) (opens i new) = none
 ruled (since settings packets) (takes i packet out) =
-    some (cond (repeats packets (acceptedOf settings packet)) (took Repeat out) (took (answerTo packets (acceptedOf settings packet)) (written out (unit packets (acceptedOf settings packet)))))
-ruled (since settings packets) (closes i out) = some (closed 0 (put out 0 (octetsOf (credit settings packets))))
+    some (cond (repeats packets (acceptedOf settings packet)) (toPacket Repeat out) (toPacket (answerTo packets (acceptedOf settings packet)) (written out (unit packets (acceptedOf settings packet)))))
+ruled (since settings packets) (closes i out) = some (toClosing 0 (put out 0 (octetsOf (credit settings packets))))
 
 -- ---- for every run from a fresh start: each reply that isn't a refusal is the one that the grouping rule gives for the packets that the lane had
 -- accepted
@@ -107,7 +107,7 @@ LanesAreTheRules =
 abbrev pub CreditNeedsUnits : Type 0
 CreditNeedsUnits =
     (pool : List ℕ) (calls : List Call) (i n : ℕ) (out credited : List ℕ) → length pool ≡ poolOctets
-    → reply (run (freshWith pool) calls) (closes i out) ≡ closed 0 credited → unitsIn credited ≡ n
+    → reply (run (freshWith pool) calls) (closes i out) ≡ toClosing 0 credited → unitsIn credited ≡ n
     → (length (endings (packetsOf (pastOf i (freshWith pool) calls))) ≡ n) × (n ≤ length (packetsOf (pastOf i (freshWith pool) calls))) × (unitsTold i (freshWith pool) calls ≡ n)
 
 pub record Demand2 : Type 0 where
