@@ -30,7 +30,7 @@ use Rattle.intake.specs.declared.State.{State}
 use Rattle.intake.specs.State.{freshState, laneAt, total, others}
 use Rattle.intake.specs.Calls.{openingRefusal, closingRefusal, settle}
 use Rattle.intake.specs.After.{openedWith, opening, closing, creditOf, closingOut, answerOf, taking}
-use Rattle.demands.specs.Runs.{Intake, freshWith, Call, opens, takes, closes, Reply, opened, took, reply, after, replies, laneOf, names, own, repliesTo}
+use Rattle.demands.specs.Runs.{Intake, freshWith, Call, opens, takes, closes, Reply, toOpening, toPacket, reply, after, run, replies, laneOf, names, own, repliesTo}
 use Rattle.demands.specs.Runs as runs
 use Rattle.demands.specs.Demand3.{StaysInShare, NoneUnpromised, AsAlone}
 use Rattle.demands.proofs.Lanes.{need-closed, total-at}
@@ -88,7 +88,7 @@ module _ (i : ℕ) (x y : Intake) (k : Alike i x y) where
     taken-together : InShare (laneAt (after y (takes i p out) .state) i) → Together (takes i p out)
     taken-together w =
         let d : stepFor x i p out ≡ stepFor y i p out = same-decision w in
-        let told : Slot → Step → Reply = λ v e. took (answerOf e) (outFrom (v .group) (userData (v .lane .settings) p) e out) in
+        let told : Slot → Step → Reply = λ v e. toPacket (answerOf e) (outFrom (v .group) (userData (v .lane .settings) p) e out) in
         (took-reply x i p out ∙ ap₂ told (k .slot) d ∙ sym (took-reply y i p out),
         took-slot x (k .shared) (k .size) i p out ∙ ap₂ (λ (v : Slot) (e : Step). slotAfter v p e) (k .slot) d ∙ sym (took-slot y (k .alone) (k .size-alone) i p out))
 
@@ -116,12 +116,12 @@ module _ (i : ℕ) (x y : Intake) (k : Alike i x y) where
         (λ d. absurd (never (simp (not-unsound (x .state) (k .shared), same-lane, a, b, c, d))))
         (λ d. simp d))))))))
 
-    opened-together : (reply x (opens i settings) ≡ opened 23 → ⊥) → Together (opens i settings)
+    opened-together : (reply x (opens i settings) ≡ toOpening 23 → ⊥) → Together (opens i settings)
     unfolding reply opening
     opened-together never =
         let same : openingRefusal (x .state) i settings (length (x .pool)) ≡ openingRefusal (y .state) i settings (length (y .pool)) =
-          rw (k .size, k .size-alone) (same-opening (λ e. never (ap opened (rw (k .size) e)))) in
-        (ap opened same,
+          rw (k .size, k .size-alone) (same-opening (λ e. never (ap toOpening (rw (k .size) e)))) in
+        (ap toOpening same,
         opened-slot x (k .shared) (k .size) i settings ∙ ap₂ (λ (n : ℕ) (v : Slot). unlessRefused n (without (openedWith settings)) v) same (k .slot)
         ∙ sym (opened-slot y (k .alone) (k .size-alone) i settings))
 
@@ -133,12 +133,12 @@ module _ (i : ℕ) (x y : Intake) (k : Alike i x y) where
     closed-together : Together (closes i out)
     unfolding reply closing closingOut
     closed-together =
-        (ap₂ (λ (n : ℕ) (l : Lane). runs.closed n (outputAfter n (octetsOf (creditOf l)) out)) same-closing same-lane,
+        (ap₂ (λ (n : ℕ) (l : Lane). runs.toClosing n (outputAfter n (octetsOf (creditOf l)) out)) same-closing same-lane,
         closed-slot x (k .shared) (k .size) i out ∙ ap₂ (λ (n : ℕ) (v : Slot). unlessRefused n (without closed) v) same-closing (k .slot)
         ∙ sym (closed-slot y (k .alone) (k .size-alone) i out))
 
 -- a call of the source itself, in its share, and with its share promised
-together : (x y : Intake) (c : Call) (k : Alike (laneOf c) x y) → InShare (laneAt (after y c .state) (laneOf c)) → (reply x c ≡ opened 23 → ⊥) → Together (laneOf c) x y k c
+together : (x y : Intake) (c : Call) (k : Alike (laneOf c) x y) → InShare (laneAt (after y c .state) (laneOf c)) → (reply x c ≡ toOpening 23 → ⊥) → Together (laneOf c) x y k c
 together x y (opens i settings) k w never = opened-together i x y k settings never
 together x y (takes i p out) k w never = taken-together i x y k p out w
 together x y (closes i out) k w never = closed-together i x y k out
@@ -155,8 +155,8 @@ still-no-other y (takes i p out) = others-same (y .state .lanes) i _
 still-no-other y (closes i out) = unless (λ (t : State). others (t .lanes) i ≡ others (y .state .lanes) i) (closingRefusal (y .state) i (length (y .pool)) (length out)) refl (λ e. others-same (y .state .lanes) i _)
 
 module _ (i : ℕ) where
-  own-call : (x y : Intake) (c : Call) → laneOf c ≡ i → Alike i x y → InShare (laneAt (after y c .state) i) → (reply x c ≡ opened 23 → ⊥) → (reply x c ≡ reply y c) × Alike i (after x c) (after y c)
-  own-call x y c e = subst (λ (j : ℕ). Alike j x y → InShare (laneAt (after y c .state) j) → (reply x c ≡ opened 23 → ⊥) → (reply x c ≡ reply y c) × Alike j (after x c) (after y c)) e
+  own-call : (x y : Intake) (c : Call) → laneOf c ≡ i → Alike i x y → InShare (laneAt (after y c .state) i) → (reply x c ≡ toOpening 23 → ⊥) → (reply x c ≡ reply y c) × Alike i (after x c) (after y c)
+  own-call x y c e = subst (λ (j : ℕ). Alike j x y → InShare (laneAt (after y c .state) j) → (reply x c ≡ toOpening 23 → ⊥) → (reply x c ≡ reply y c) × Alike j (after x c) (after y c)) e
       (λ k w never. let both = together x y c k w never in (both .0, record {
         shared = after-sound x (k .shared) c;
         alone = after-sound y (k .alone) c;
@@ -177,15 +177,15 @@ module _ (i : ℕ) where
   }
 
   along : (calls : List Call) (x y : Intake) → Alike i x y → StaysInShare i y (own i calls) → NoneUnpromised (repliesTo i x calls) → repliesTo i x calls ≡ replies y (own i calls)
-  unfolding own repliesTo replies StaysInShare NoneUnpromised
+  unfolding own repliesTo replies run
   along [] x y k w never = refl
   along (c ∷ calls) x y k w never =
       either (names i c)
       (λ e.
       let w′ : StaysInShare i y (c ∷ own i calls) = simp e at w in
       let never′ : NoneUnpromised (reply x c ∷ repliesTo i (after x c) calls) = simp e at never in
-      let both = own-call x y c (eqb-true (laneOf c) i e) k (w′ .0) (never′ .0) in
-      simp e (ap₂ (λ (r : Reply) (rs : List Reply). r ∷ rs) (both .0) (along calls (after x c) (after y c) (both .1) (w′ .1) (never′ .1))))
+      let both = own-call x y c (eqb-true (laneOf c) i e) k (w′ 1) (never′ 0) in
+      simp e (ap₂ (λ (r : Reply) (rs : List Reply). r ∷ rs) (both .0) (along calls (after x c) (after y c) (both .1) (λ n. w′ (suc n)) (λ n. never′ (suc n)))))
       (λ e. simp e (along calls (after x c) y (other-call x y c (eqb-false (laneOf c) i e) k) (simp e at w) (simp e at never)))
 
 -- ---- at the fresh start the lane is closed in both, whatever lies in the pools

@@ -114,5 +114,5 @@ unfolding run
 run-sound x k [] = k
 run-sound x k (c ∷ cs) = run-sound (after x c) (after-sound x k c) cs
 
-pub reached : (pool : List ℕ) (cs : List Call) → Sound (run (freshWith pool) cs .state)
-reached pool cs = run-sound (freshWith pool) fresh cs
+pub reached-sound : (pool : List ℕ) (cs : List Call) → Sound (run (freshWith pool) cs .state)
+reached-sound pool cs = run-sound (freshWith pool) fresh cs

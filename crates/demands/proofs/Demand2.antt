@@ -1,27 +1,30 @@
 -- Demand 2. The round trips are those of the crates writing and record; the rest is what holds of a lane along every run.
-use Prim.Native.Nat.{ℕ, _≤_, _<_}
-use mathlib.Core.Path.{_≡_, sym, ap, subst, _∙_}
-use mathlib.Core.List.{List}
-use mathlib.Core.Bool.{true≢false}
+use Prim.Native.Nat.{ℕ, suc, _*_, _%_, _≤_, _<_}
+use mathlib.Core.Path.{_≡_, refl, sym, ap, subst, _∙_}
+use mathlib.Core.List.{List, [], _∷_, _++_}
+use mathlib.Core.Bool.{true, true≢false}
 use mathlib.Core.Logic.{⊎-elim}
 use mathlib.Core.Option.{some}
 use native.Mathlib.Omega.{arith}
+use borrow.Author.Tests.{eq-eqb, le-ltb}
 use lib.ListN.{length}
 use Rattle.octets.specs.Output.{put}
-use Rattle.octets.proofs.Again.{read-four}
+use Rattle.octets.proofs.Again.{read-two, read-four}
 use Rattle.record.specs.Record.{unitsIn, recordOctets}
+use Rattle.record.specs.Reading.{possibleAt, possibleBefore, recordsIn, fileReading}
 use Rattle.record.specs.Told.{octetsOf}
 use Rattle.record.specs.declared.Record.{Record}
 use Rattle.record.proofs.Answers.{read-fields}
-use Rattle.record.proofs.RoundTrip.{read-output, write-read}
+use Rattle.record.proofs.RoundTrip.{read-output, write-read, accepted-again}
+use Rattle.writing.proofs.Shortest.{is-shortest}
 use Rattle.writing.proofs.RoundTrips.{space-output, encap-output, space-written, encap-written}
 use Rattle.lane.proofs.Fine.{Tallies, is-fine}
 use Rattle.intake.specs.State.{laneAt}
-use Rattle.demands.specs.Runs.{Intake, freshWith, closes, closed, run, laneOf}
+use Rattle.demands.specs.Runs.{Intake, freshWith, closes, toClosing, run, laneOf}
 use Rattle.demands.specs.Rule.{units, credit}
 use Rattle.demands.specs.Past.{Past, shut, since, packetsOf, isRefused, pastOf, unitsTold}
-use Rattle.demands.specs.Demand2.{SpaceGivenBack, EncapsulationGivenBack, RecordGivenBack, SpaceWrittenAgain, EncapsulationWrittenAgain, RecordWrittenAgain}
-use Rattle.demands.specs.Demand2.{laneFrom, ruled, RepliesAreTheRules, LanesAreTheRules, CreditNeedsUnits, Demand2}
+use Rattle.demands.specs.Demand2.{SpaceGivenBack, EncapsulationGivenBack, HeaderIsShortest, RecordGivenBack, Possible, fileOf, FileGivenBack, SpaceWrittenAgain, EncapsulationWrittenAgain, RecordWrittenAgain}
+use Rattle.demands.specs.Demand2.{laneFrom, ruled, RepliesAreTheRules, LanesAreTheRules, CreditNeeds, Demand2}
 use Rattle.demands.proofs.Sound.{lane-fine}
 use Rattle.demands.proofs.View.{Slot}
 use Rattle.demands.proofs.Followed.{At, call-follows, reached-at}
@@ -38,14 +41,51 @@ record-given-back r out w e =
     read-output (r .station) (r .apid) (r .units) (r .packets) (r .missing) (r .broken)
     (record { station-16 = w .0; apid-16 = w .1; units-32 = w .2; packets-32 = w .3; missing-32 = w .4; broken-32 = w .5 }) out e
 
+header-is-shortest : HeaderIsShortest
+header-is-shortest p u x room given small e = is-shortest p u x room given e small
+
+-- the record at the front of a file
+front-possible : (r : Possible) (rest : List ℕ) → possibleAt (octetsOf (r .credit) ++ rest) ≡ true
+unfolding possibleAt recordOctets
+front-possible r rest =
+    let w = r .wide in
+    let a = read-two (r .credit .apid) (w .1) in
+    let u = read-four (r .credit .units) (w .2) in
+    let p = read-four (r .credit .packets) (w .3) in
+    let m = read-four (r .credit .missing) (w .4) in
+    let b = read-four (r .credit .broken) (w .5) in
+    let h = r .possible in
+    cc
+
+file-length : (rs : List Possible) → length (fileOf rs) ≡ length rs * 20
+unfolding fileOf recordOctets
+file-length [] = refl
+file-length (r ∷ rs) = omega (arith, file-length rs)
+
+each-possible : (rs : List Possible) → possibleBefore (length rs) (fileOf rs) ≡ length rs
+unfolding fileOf possibleBefore recordOctets
+each-possible [] = refl
+each-possible (r ∷ rs) = simp (front-possible r (fileOf rs)) (ap suc (each-possible rs))
+
+file-given-back : FileGivenBack
+unfolding fileReading
+file-given-back rs =
+    let size = file-length rs in
+    let records : recordsIn (fileOf rs) ≡ length rs = omega (arith, size) in
+    simp (eq-eqb (length (fileOf rs) % 20) 0 (omega (arith, size))) (rw (records, each-possible rs) (simp (le-ltb (length rs) (length rs) (omega arith))))
+
 space-written-again : SpaceWrittenAgain
-space-written-again s small e v = space-written s small e v .0
+space-written-again s small e v = space-written s small e v
 
 encapsulation-written-again : EncapsulationWrittenAgain
-encapsulation-written-again s small e v = encap-written s small e v .0
+encapsulation-written-again s small e v = encap-written s small e v
 
 record-written-again : RecordWrittenAgain
-record-written-again r s small e = let h = read-fields s r (sym e) in let w = write-read s small (h .0) in cc
+record-written-again r s small e =
+    let h = read-fields s r (sym e) in
+    let w = write-read s small (h .0) in
+    let again = accepted-again s small (h .0) in
+    (cc, λ room fits. let z = again room fits in cc)
 
 -- ---- the rule
 pub replies-are-the-rules : RepliesAreTheRules
@@ -64,20 +104,20 @@ unfolding put recordOctets
 units-written r out h = read-four (r .units) h
 
 -- a closing that isn't refused writes the units of its past, of which there are no more than packets
-credited-units : (past : Past) (i : ℕ) (out credited : List ℕ) → Tallies (laneFrom past) → ruled past (closes i out) ≡ some (closed 0 credited)
+credited-units : (past : Past) (i : ℕ) (out credited : List ℕ) → Tallies (laneFrom past) → ruled past (closes i out) ≡ some (toClosing 0 credited)
     → (unitsIn credited ≡ units (packetsOf past)) × (units (packetsOf past) ≤ length (packetsOf past))
 credited-units shut i out credited t e = absurd (let z : _≡_ {A = ℕ} 0 1 = cc in omega arith)
 credited-units (since s ps) i out credited t e =
     let z : put out 0 (octetsOf (credit s ps)) ≡ credited = cc in
     (rw (← z) (units-written (credit s ps) out (omega arith)), omega arith)
 
-pub credit-needs-units : CreditNeedsUnits
-credit-needs-units pool calls i n out credited size e told =
+credit-needs-units : (n : ℕ) → CreditNeeds n
+credit-needs-units n pool calls i out credited size e told =
     let x : Intake = run (freshWith pool) calls in
     let past : Past = pastOf i (freshWith pool) calls in
     let h : At i x past (unitsTold i (freshWith pool) calls) = reached-at i pool size calls in
     let t : Tallies (laneFrom past) = subst (λ (v : Slot). Tallies (v .lane)) (h .slot) (is-fine (laneAt (x .state) i) (lane-fine (x .state) (h .sound) i) .tallies) in
-    let r : ruled past (closes i out) ≡ some (closed 0 credited) =
+    let r : ruled past (closes i out) ≡ some (toClosing 0 credited) =
       ⊎-elim (λ z. absurd (true≢false (sym z ∙ ap isRefused e))) (λ z. z ∙ ap some e) (replies-are-the-rules pool calls (closes i out) size) in
     let u = credited-units past i out credited t r in
     (sym (u .0) ∙ told, omega (arith, u .0, u .1, told), h .told ∙ sym (u .0) ∙ told)
@@ -86,11 +126,14 @@ pub demand2 : Demand2
 demand2 = record {
   space-given-back = space-given-back;
   encapsulation-given-back = encapsulation-given-back;
+  header-is-shortest = header-is-shortest;
   record-given-back = record-given-back;
+  file-given-back = file-given-back;
   space-written-again = space-written-again;
   encapsulation-written-again = encapsulation-written-again;
   record-written-again = record-written-again;
   replies-are-the-rules = replies-are-the-rules;
   lanes-are-the-rules = lanes-are-the-rules;
   credit-needs-units = credit-needs-units;
+  credit-of-3000 = credit-needs-units 3000;
 }

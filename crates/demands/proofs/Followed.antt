@@ -21,7 +21,7 @@ use Rattle.intake.specs.State.{laneAt, others}
 use Rattle.intake.specs.Calls.{openingRefusal, closingRefusal}
 use Rattle.intake.specs.After.{openedWith, creditOf, opening, closing, closingOut}
 use Rattle.intake.specs.declared.Answer.the-variants.{Refused, Repeat, Stray, Held, Unit}
-use Rattle.demands.specs.Runs.{Intake, freshWith, Call, opens, takes, closes, Reply, opened, took, closed, reply, after, run, laneOf, names}
+use Rattle.demands.specs.Runs.{Intake, freshWith, Call, opens, takes, closes, Reply, toOpening, toPacket, toClosing, reply, after, run, laneOf, names}
 use Rattle.demands.specs.Rule.{Accepted, present, repeats, missing, group, unit, givesUp, answerWith, answerTo, endings, units, missingInAll, broken, lastCount}
 use Rattle.demands.specs.Past.{Past, shut, since, packetsOf, acceptedOf, isRefused, isAccepted, later, pastFrom, pastOf, isUnit, tally, unitsToldFrom, unitsTold}
 use Rattle.demands.specs.Demand2.{laneFrom, written}
@@ -34,26 +34,26 @@ use Rattle.demands.proofs.Ruled.{slotFrom, Right, Follows, units-more, 
 -- ---- an opening and a closing of lane v, by their refusals
 module _ (past : Past) (v : Slot) (same : v ≡ slotFrom past) (i refusal : ℕ) where
   opening-follows : (settings : Settings) → (refusal ≡ 0 → v .lane .opened ≡ false)
-      → Follows past (opens i settings) (unlessRefused refusal (without (openedWith settings)) v) (opened refusal)
+      → Follows past (opens i settings) (unlessRefused refusal (without (openedWith settings)) v) (toOpening refusal)
   unfolding group endings missingInAll broken lastCount
   opening-follows settings found =
       either (eqb refusal 0)
       (λ e. let z : refusal ≡ 0 = eqb-true refusal 0 e in rw z (done past (rw same at (found z))))
       (λ e. simp e (same, inl refl))
     where
-      done : (past : Past) → laneFrom past .opened ≡ false → Follows past (opens i settings) (without (openedWith settings)) (opened 0)
+      done : (past : Past) → laneFrom past .opened ≡ false → Follows past (opens i settings) (without (openedWith settings)) (toOpening 0)
       done shut e = (refl, inr refl)
       done (since s ps) e = absurd (true≢false e)
 
   closing-follows : (out : List ℕ) → (refusal ≡ 0 → v .lane .opened ≡ true)
-      → Follows past (closes i out) (unlessRefused refusal (without closedLane) v) (closed refusal (outputAfter refusal (octetsOf (creditOf (v .lane))) out))
+      → Follows past (closes i out) (unlessRefused refusal (without closedLane) v) (toClosing refusal (outputAfter refusal (octetsOf (creditOf (v .lane))) out))
   unfolding outputAfter group
   closing-follows out found =
       either (eqb refusal 0)
       (λ e. let z : refusal ≡ 0 = eqb-true refusal 0 e in rw (z, same) (done past (rw same at (found z))))
       (λ e. simp e (same, inl refl))
     where
-      done : (past : Past) → laneFrom past .opened ≡ true → Follows past (closes i out) (without closedLane) (closed 0 (put out 0 (octetsOf (creditOf (laneFrom past)))))
+      done : (past : Past) → laneFrom past .opened ≡ true → Follows past (closes i out) (without closedLane) (toClosing 0 (put out 0 (octetsOf (creditOf (laneFrom past)))))
       done shut e = absurd (true≢false (sym e))
       done (since s ps) e = (refl, inr refl)
 
@@ -73,16 +73,16 @@ module _ (x : Intake) (k : Sound (x .state)) (size : length (x .pool) ≡ 16384)
 
 -- ---- how often Unit was answered follows the packets that end a unit, by the replies alone
 refused-tells : (r : Reply) → isRefused r ≡ true → (isAccepted r ≡ false) × (isUnit r ≡ false)
-refused-tells (opened refusal) e = (refl, refl)
-refused-tells (closed refusal out) e = (refl, refl)
-refused-tells (took (Refused number) out) e = (refl, refl)
-refused-tells (took Repeat out) e = absurd (true≢false (sym e))
-refused-tells (took (Stray m gave) out) e = absurd (true≢false (sym e))
-refused-tells (took (Held m gave) out) e = absurd (true≢false (sym e))
-refused-tells (took (Unit n m gave) out) e = absurd (true≢false (sym e))
+refused-tells (toOpening refusal) e = (refl, refl)
+refused-tells (toClosing refusal out) e = (refl, refl)
+refused-tells (toPacket (Refused number) out) e = (refl, refl)
+refused-tells (toPacket Repeat out) e = absurd (true≢false (sym e))
+refused-tells (toPacket (Stray m gave) out) e = absurd (true≢false (sym e))
+refused-tells (toPacket (Held m gave) out) e = absurd (true≢false (sym e))
+refused-tells (toPacket (Unit n m gave) out) e = absurd (true≢false (sym e))
 
 word-tells : (u g : Option (List ℕ)) (m : ℕ) (gave : Bool) (out : List ℕ)
-    → (isAccepted (took (answerWith u g m gave) out) ≡ true) × (isUnit (took (answerWith u g m gave) out) ≡ present u)
+    → (isAccepted (toPacket (answerWith u g m gave) out) ≡ true) × (isUnit (toPacket (answerWith u g m gave) out) ≡ present u)
 word-tells (some octets) g m gave out = (refl, refl)
 word-tells none (some octets) m gave out = (refl, refl)
 word-tells none none m gave out = (refl, refl)
@@ -96,10 +96,10 @@ tally-follows shut (takes i p out) r (inr e) = absurd (let z : _≡_ {A = ℕ} 0
 tally-follows (since s ps) (takes i p out) r (inr e) =
     let q : Accepted = acceptedOf s p in
     either (repeats ps q)
-    (λ f. let z : took Repeat out ≡ r = (let y = simp f at e in cc) in rw (← z) (omega arith))
+    (λ f. let z : toPacket Repeat out ≡ r = (let y = simp f at e in cc) in rw (← z) (omega arith))
     (λ f.
     let o : List ℕ = written out (unit ps q) in
-    let z : took (answerTo ps q) o ≡ r = (let y = simp f at e in cc) in
+    let z : toPacket (answerTo ps q) o ≡ r = (let y = simp f at e in cc) in
     let t = word-tells (unit ps q) (group (q ∷ ps)) (missing ps q) (givesUp ps q) o in
     rw (← z) (rw (t .0, t .1) (sym (units-more ps q))))
 

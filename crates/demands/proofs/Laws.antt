@@ -41,7 +41,7 @@ use Rattle.demands.proofs.Marks.{just-its-blocks, released-free}
 use Rattle.demands.proofs.Blocks.{free-or-held}
 use Rattle.demands.proofs.Steps.{Stepped, strays, ends, stepped, refused-why, pool-then}
 use Rattle.demands.proofs.Order.{ordered, room-in-share}
-use Rattle.demands.proofs.Calls.{closed-small, opening-sound, closing-sound, taking-sound, reached}
+use Rattle.demands.proofs.Calls.{closed-small, opening-sound, closing-sound, taking-sound, reached-sound}
 use Rattle.demands.proofs.Groups.{opening-leaves, closing-leaves, taking-leaves, held-gathered, unit-fits}
 
 -- eight lanes and 64 marks, which the test finds sound
@@ -56,7 +56,7 @@ pub fresh-sound : Good freshState
 fresh-sound = good freshState fresh
 
 pub run-sound : (pool : List ℕ) (calls : List Call) → Good (run (freshWith pool) calls .state)
-run-sound pool calls = good (run (freshWith pool) calls .state) (reached pool calls)
+run-sound pool calls = good (run (freshWith pool) calls .state) (reached-sound pool calls)
 
 -- 24 is never met there, with a pool of 16,384 octets
 module _ (pool : List ℕ) (calls : List Call) (i : ℕ) where
@@ -64,7 +64,7 @@ module _ (pool : List ℕ) (calls : List Call) (i : ℕ) where
   here = run (freshWith pool) calls .state
 
   never : unsound here 16384 ≡ false
-  never = not-unsound here (reached pool calls)
+  never = not-unsound here (reached-sound pool calls)
 
   abbrev Not24 : ℕ → Type 0
   Not24 n = n ≡ 24 → ⊥
@@ -83,7 +83,7 @@ module _ (pool : List ℕ) (calls : List Call) (i : ℕ) where
 
   pub packet-never-24 : (p : List ℕ) (room : ℕ) → packetStep here i p 16384 room ≡ Refuse 24 → ⊥
   packet-never-24 p room e =
-      true≢false (sym (refused-why here i p 16384 room 24 (subst (Stepped here i p 16384 room) e (stepped here (reached pool calls) i p 16384 room)) .0 refl) ∙ never)
+      true≢false (sym (refused-why here i p 16384 room 24 (subst (Stepped here i p 16384 room) e (stepped here (reached-sound pool calls) i p 16384 room)) .0 refl) ∙ never)
 
 -- ---- A refusal returns its number and leaves state, pool and output untouched: of any state, sound or not
 module _ (s : State) (i : ℕ) where

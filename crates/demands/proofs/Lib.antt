@@ -15,4 +15,8 @@ pub mod Followed
 pub mod Demand2
 pub mod Laws
 pub mod Shared
+pub mod Unrefused
+pub mod Again
 pub mod Demand3
+pub mod Examples
+pub mod ShutOut

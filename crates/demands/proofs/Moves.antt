@@ -2,7 +2,7 @@
 -- every step does, and what a step grants are the lowest-numbered free blocks.
 use Prim.Native.Nat.{ℕ, zero, suc, _+_, _-_, _/_, _≤_, _<_}
 use mathlib.Core.Path.{_≡_, refl, ap, _∙_}
-use mathlib.Core.Bool.{Bool, false}
+use mathlib.Core.Bool.{Bool, false, cond, _&&_}
 use mathlib.Core.List.{List, [], _∷_}
 use mathlib.Core.Logic.{_⊎_, inl, inr, ⊎-elim}
 use native.Mathlib.Decide.{decLt}
@@ -25,7 +25,7 @@ use Rattle.intake.specs.State.{laneAt}
 use Rattle.intake.specs.Calls.{openingRefusal, closingRefusal}
 use Rattle.intake.specs.After.{releasedFrom, grown, marksAfter, userOf, opening, closing, taking}
 use Rattle.demands.specs.Runs.{Intake, Call, opens, takes, closes, after, laneOf}
-use Rattle.demands.specs.Demand3.{markAt, Belongs, freeBelow, marked}
+use Rattle.demands.specs.Demand3.{markAt, Belongs, freeBelow}
 use Rattle.demands.proofs.Sound.{Sound, unless}
 use Rattle.demands.proofs.Marks.{kept, blocksKept, grows, kept-length, just-its-blocks, none-without, released-free}
 use Rattle.demands.proofs.Steps.{Stepped, stepped, group-grows}
@@ -97,7 +97,7 @@ module _ (s : State) (k : Sound s) (i b : ℕ) (block : b < 64) where
         grown-keeps : (getD base b 0 ≡ free → ⊥) ⊎ (blocksFor n - before ≤ freeBelow base b) → getD (grown (s .marks) i own on n) b 0 ≡ getD base b 0
         grown-keeps w = rw (grows (s .marks) i own on n) (others-keep base (mark i before) (blocksFor n - before) b (omega arith) inside w)
 
-        pub grown-marked : getD (grown (s .marks) i own on n) b 0 ≡ marked i (getD base b 0) (freeBelow base b) before (blocksFor n)
+        pub grown-marked : getD (grown (s .marks) i own on n) b 0 ≡ cond (isFree (getD base b 0) && ltb (before + freeBelow base b) (blocksFor n)) (mark i (before + freeBelow base b)) (getD base b 0)
         grown-marked =
             either (isFree (getD base b 0))
             (λ e. simp e (either (ltb (before + freeBelow base b) (blocksFor n))

@@ -2,20 +2,22 @@
 -- and the one for 20, fails where the answer isn't of that kind.
 use Prim.Native.Nat.{ℕ, _+_, _≤_, max}
 use mathlib.Core.Path.{_≡_, refl, sym, _∙_}
-use mathlib.Core.Bool.{Bool, true, false, not, _&&_}
-use mathlib.Core.List.{List, [], _∷_}
+use mathlib.Core.Bool.{Bool, true, false, cond, not, _&&_}
+use mathlib.Core.List.{List, [], _∷_, _++_}
 use native.Mathlib.Omega.{arith}
 use borrow.Author.Tests.{leb-true, leb-false, ltb-true, le-ltb, lt-ltb, eqb-true, eqb-false, eq-eqb, ne-eqb, not-false}
 use lib.Dec.{eqb, ltb, leb}
-use Rattle.octets.specs.Order.{_gives_, first}
-use Rattle.octets.proofs.Order.{either}
+use Rattle.octets.specs.Order.{Test, _gives_, first}
+use Rattle.octets.proofs.Order.{either, first-append, Numbers, numbers-append, first-unless}
 use Rattle.packet.specs.Space.{flags, count}
+use Rattle.packet.specs.Reading.{isSpace, readingTests, refusal}
 use Rattle.pool.specs.Blocks.{blocksFor}
+use Rattle.lane.specs.declared.Settings.{Settings}
 use Rattle.lane.specs.declared.Lane.{Lane}
 use Rattle.lane.specs.declared.Added.{Added}
 use Rattle.lane.specs.declared.Step.the-variants.{Stray}
 use Rattle.lane.specs.declared.Plan.the-variants.{Sure}
-use Rattle.lane.specs.Packets.{fault, userOctets}
+use Rattle.lane.specs.Packets.{laneTests, fault, userOctets}
 use Rattle.lane.specs.Grouping.{repeats, goesOn, addedFrom}
 use Rattle.lane.specs.Plans.{holdPlan, unitPlan, groupingPlan, acceptedPlan, packetPlan}
 use Rattle.lane.proofs.Fine.{is-fine}
@@ -95,17 +97,31 @@ module _ (l : Lane) (o room : ℕ) where
           simp (e, g, h, ends, on) (to-end a true (l .octets + user))))
           (λ on. simp (e, g, on, and-false) (to-stray a))))
 
--- ---- all tests
+-- ---- all tests: reading and 12 to 17 come to `fault`, and where that is 0 the rest is asked
+reading-numbers : (p : List ℕ) → Numbers (readingTests p)
+unfolding readingTests
+reading-numbers p = either (isSpace p) (λ e. simp e (omega arith)) (λ e. simp e (omega arith))
+
+lane-numbers : (l : Settings) (p : List ℕ) → Numbers (laneTests l p)
+lane-numbers l p = omega arith
+
+faults : (l : Settings) (p : List ℕ) (rest : List (Test ℕ)) → first 0 (readingTests p ++ laneTests l p ++ rest) ≡ cond (not (eqb (fault l p) 0)) (fault l p) (first 0 rest)
+unfolding fault refusal
+faults l p rest =
+    let same : first 0 (readingTests p ++ laneTests l p) ≡ fault l p = first-append 0 (readingTests p) (laneTests l p) ∙ first-unless (first 0 (laneTests l p)) (readingTests p) (reading-numbers p) in
+    first-append 0 (readingTests p ++ laneTests l p) rest
+    ∙ first-unless (first 0 rest) (readingTests p ++ laneTests l p) (numbers-append (readingTests p) (laneTests l p) (reading-numbers p) (lane-numbers l p)) ∙ rw same
+
 pub ordered : (s : State) → Shaped s → (i : ℕ) (p : List ℕ) (octets room : ℕ) → refusalOf (packetStep s i p octets room) ≡ first 0 (packetTests s i p octets room)
 unfolding packetStep packetPlan acceptedPlan settle
 ordered s shape i p octets room =
     let l : Lane = laneAt s i in
     either (unsound s octets) (λ e. simp e)
     (λ e. simp e (either (not (l .opened)) (λ a. simp a)
-    (λ a. simp a (either (not (eqb (fault (l .settings) p) 0)) (λ b. simp b)
+    (λ a. simp a (rw (faults (l .settings) p _) (either (not (eqb (fault (l .settings) p) 0)) (λ b. simp b)
     (λ b. simp b (either (repeats l (count p)) (λ c. simp c)
     (λ c. simp c (either (leb 262144 (l .packets)) (λ d. simp d)
-    (λ d. simp d (grouping l (others (s .lanes) i) room (share-fits s (is-sound s shape (then-sound s octets e .0)) i (not-false _ a)) p))))))))))
+    (λ d. simp d (grouping l (others (s .lanes) i) room (share-fits s (is-sound s shape (then-sound s octets e .0)) i (not-false _ a)) p)))))))))))
 
 -- ---- no test for 19 holds of an open lane that would hold no more than its cap and has the room beside the others
 abbrev Not19 : ℕ → Type 0
@@ -124,12 +140,12 @@ module _ (s : State) (i : ℕ) (p : List ℕ) (octets room : ℕ) where
       (λ a. of-either Not19 (not (own .opened)) (λ b z. omega arith)
       (λ b.
       let both = fits (not-false _ b) in
-      of-either Not19 (not (eqb (fault (own .settings) p) 0)) (λ c z. omega (arith, fault-most (own .settings) p))
+      rw (faults (own .settings) p _) (of-either Not19 (not (eqb (fault (own .settings) p) 0)) (λ c z. omega (arith, fault-most (own .settings) p))
       (λ c. of-either Not19 (repeats own (count p)) (λ d z. omega arith)
       (λ d. of-either Not19 (leb 262144 (own .packets)) (λ e z. omega arith)
       (λ e. of-either Not19 (ltb (own .settings .cap) h) (λ f z. omega (arith, ltb-true (own .settings .cap) h f))
       (λ f. of-either Not19 (ltb 64 (max h (own .settings .share) + others (s .lanes) i)) (λ g z. omega (arith, ltb-true 64 (max h (own .settings .share) + others (s .lanes) i) g))
-      (λ g. of-either Not19 (ltb room (wouldWrite own p)) (λ j z. omega arith) (λ j z. omega arith))))))))
+      (λ g. of-either Not19 (ltb room (wouldWrite own p)) (λ j z. omega arith) (λ j z. omega arith)))))))))
 
   -- so of one that would hold no more than its share
   pub room-in-share : Sound s → h ≤ own .settings .share → Not19 (first 0 (packetTests s i p octets room))

@@ -31,7 +31,7 @@ use Rattle.lane.proofs.Accepted.{accepted-data}
 use Rattle.lane.proofs.Planned.{of-either}
 use Rattle.intake.specs.Calls.{settle}
 use Rattle.intake.specs.After.{answerOf}
-use Rattle.demands.specs.Runs.{Call, takes, Reply, took}
+use Rattle.demands.specs.Runs.{Call, takes, Reply, toPacket}
 use Rattle.demands.specs.Rule.{Accepted, present, octetsIn, joined, repeats, missing, breaks, group, unit, givesUp}
 use Rattle.demands.specs.Rule.{answerWith, answerTo, endings, units, missingInAll, broken, lastCount}
 use Rattle.demands.specs.Past.{Past, shut, since, packetsOf, acceptedOf, isRefused, later}
@@ -52,7 +52,7 @@ Follows past c v r = (v ≡ slotFrom (later past c r)) × Right past c r
 
 -- the same of a packet's step in lane v
 abbrev Steps : Past → Slot → ℕ → List ℕ → List ℕ → Step → Type 0
-Steps past v i p out d = Follows past (takes i p out) (slotAfter v p d) (took (answerOf d) (outFrom (v .group) (userData (v .lane .settings) p) d out))
+Steps past v i p out d = Follows past (takes i p out) (slotAfter v p d) (toPacket (answerOf d) (outFrom (v .group) (userData (v .lane .settings) p) d out))
 
 refused : (past : Past) (i : ℕ) (p out : List ℕ) (number : ℕ) → Steps past (slotFrom past) i p out (Refuse number)
 unfolding laneAfter
@@ -138,7 +138,7 @@ module _ (s : Settings) (ps : List Accepted) (small : lastCount ps ≤ 16383) (i
   module _ (new : repeats ps q ≡ false) where
     -- the lane then, and the rule's word on the packet
     accepts : (u g : Option (List ℕ)) → u ≡ unit ps q → g ≡ group (q ∷ ps)
-        → (counting ps q s u g ≡ slotFrom (since s (q ∷ ps))) × Right (since s ps) (takes i p out) (took (answerWith u g (missing ps q) (givesUp ps q)) (written out u))
+        → (counting ps q s u g ≡ slotFrom (since s (q ∷ ps))) × Right (since s ps) (takes i p out) (toPacket (answerWith u g (missing ps q) (givesUp ps q)) (written out u))
     unfolding answerTo
     accepts u g e f = (grown ps q s u g e f, inr (simp (new, e, f)))
 

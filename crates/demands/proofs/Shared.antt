@@ -1,14 +1,14 @@
 -- Demand 3, of the blocks: every state that a run reaches is sound, so what holds of one sound state and of one call from there holds of the run.
-use Prim.Native.Nat.{ℕ, _+_, _/_, _≤_, _<_, max}
+use Prim.Native.Nat.{ℕ, _+_, _/_, _<_, max}
 use Prim.{Unit}
-use mathlib.Core.Path.{_≡_, refl, sym, ap, _∙_}
+use mathlib.Core.Path.{_≡_, refl, ap, _∙_}
 use mathlib.Core.Bool.{Bool, true, false, not}
 use mathlib.Core.List.{List, map}
-use mathlib.Core.Logic.{⊎-elim}
+use mathlib.Core.Logic.{inl, inr, ⊎-elim}
+use native.Mathlib.Decide.{decLt}
 use native.Mathlib.Omega.{arith}
-use borrow.Author.Tests.{le-leb, le-ltb, lt-leb}
 use lib.Dec.{eqb, ltb, leb}
-use lib.ListN.{length, getD, set, length-map}
+use lib.ListN.{length, getD, set, length-map, List·getD-eq-default}
 use lib.Seq.{getD-set-same}
 use Rattle.octets.proofs.Order.{either}
 use Rattle.packet.specs.Space.{flags, count}
@@ -34,93 +34,75 @@ use Rattle.intake.specs.declared.Answer.the-variants.{Held}
 use Rattle.intake.specs.State.{laneAt, others, unsound}
 use Rattle.intake.specs.Calls.{settle, packetStep}
 use Rattle.intake.specs.After.{marksAfter, userOf, answerOf, answered, taking}
-use Rattle.demands.specs.Runs.{Intake, freshWith, takes, took, reply, after, run, laneOf}
-use Rattle.demands.specs.Order.{wouldHold}
-use Rattle.demands.specs.Demand3.{markAt, Belongs, blockOf, freeBelow, marksFor, keeps, marked, WithinCap, NoBlockInTwo, NoneLost, OnlyItsOwn, Freed, ToBeHeld, GetsRoom, TakesLowest}
+use Rattle.demands.specs.Runs.{Intake, freshWith, takes, toPacket, reply, after, run, reached, laneOf}
+use Rattle.demands.specs.Groups.{HeldPlace}
+use Rattle.demands.specs.Demand3.{markAt, blockOf, marksFor, keeps, marked, WithinCap, NoBlockInTwo, NoneLost, OnlyItsOwn, Freed, TakesLowest}
 use Rattle.demands.proofs.Sound.{Sound, lane-fine}
+use Rattle.demands.proofs.Blocks.{free-or-held}
 use Rattle.demands.proofs.Marks.{kept, blocksKept, just-its-blocks}
 use Rattle.demands.proofs.Steps.{Stepped, stepped, group-grows}
 use Rattle.demands.proofs.Steps as now
-use Rattle.demands.proofs.Calls.{after-sound, reached}
+use Rattle.demands.proofs.Calls.{after-sound, reached-sound}
 use Rattle.demands.proofs.Groups.{has-places}
-use Rattle.demands.proofs.View.{settled, took-reply, run-size}
 use Rattle.demands.proofs.Moves.{grown-marked, call-moves, none-belongs, freed-released}
 
 -- ---- No source ever holds more than its cap
 pub within-cap : WithinCap
 within-cap pool calls i size small =
     let s : State = run (freshWith pool) calls .state in
-    let k : Sound s = reached pool calls in
+    let k : Sound s = reached-sound pool calls in
     (just-its-blocks s k i small .0, is-fine (laneAt s i) (lane-fine s k i) .within)
 
 -- ---- No block belongs to two sources
+-- a lane with octets is one of the eight
+has-octets : (s : State) → Sound s → (i q : ℕ) → q < laneAt s i .octets → i < 8
+has-octets s k i q h =
+    elim (decLt i 8) [
+      | yes small ↦ small
+      | no big ↦ absurd (omega (arith, h, ap (λ (l : Lane). l .octets) (List·getD-eq-default (s .lanes) closed {n = i} (omega (arith, k .shape .0, big)))))
+    ]
+
 -- an octet lies in the block that bears its place
-octet-belongs : (s : State) → Sound s → (i q : ℕ) → i < 8 → q < laneAt s i .octets → Belongs s (blockOf s i q) i
+octet-bears : (s : State) → Sound s → (i q : ℕ) → q < laneAt s i .octets → (blockOf s i q < 64) × (markAt s (blockOf s i q) ≡ mark i (q / 256)) × (q / 256 < 64)
 unfolding place
-octet-belongs s k i q small h =
+octet-bears s k i q h =
     let m : ℕ = mark i (q / 256) in
-    let there = has-places s k i small q h in
+    let there = has-places s k i (has-octets s k i q h) q h in
     let block : blockOf s i q ≡ find (s .marks) m = omega arith in
-    (omega (arith, k .shape .1), small, rw block (omega (arith, bears (s .marks) m there, held-most (laneAt s i) (lane-fine s k i) .1)))
+    (omega (arith, k .shape .1), rw block (bears (s .marks) m there), omega (arith, held-most (laneAt s i) (lane-fine s k i) .1))
 
 pub no-block-in-two : NoBlockInTwo
-no-block-in-two pool calls i j q r size hi hj hq hr =
-    let s : State = run (freshWith pool) calls .state in
-    let here : Belongs s (blockOf s i q) i = octet-belongs s (reached pool calls) i q hi hq in
-    let there : Belongs s (blockOf s j r) j = octet-belongs s (reached pool calls) j r hj hr in
-    (here, λ e. sym (here .2) ∙ ap (λ (b : ℕ). markAt s b / 64) e ∙ there .2)
+no-block-in-two pool calls i j q r size hq hr =
+    let s : State = reached pool calls in
+    let k : Sound s = reached-sound pool calls in
+    let here = octet-bears s k i q hq in
+    let there = octet-bears s k j r hr in
+    ((here .0, has-octets s k i q hq, omega (arith, here .1, here .2)),
+    λ e. let same : markAt s (blockOf s i q) ≡ markAt s (blockOf s j r) = ap (markAt s) e in (omega (arith, same, here .1, here .2, there .1, there .2), omega (arith, same, here .1, here .2, there .1, there .2)))
 
 -- ---- no sequence of calls loses a block
 pub none-lost : NoneLost
 none-lost pool calls size =
-    let s : State = run (freshWith pool) calls .state in
-    let k : Sound s = reached pool calls in
-    matched (s .marks) (map held (s .lanes)) (k .shape .1) (length-map (s .lanes) held ∙ k .shape .0) (k .marks) .whole
+    let s : State = reached pool calls in
+    let k : Sound s = reached-sound pool calls in
+    (λ b h. ⊎-elim inl (λ (p : HeldPlace s (markAt s b)). inr (p .lane, (h, p .small, omega (arith, p .bears, p .holds, held-most (laneAt s (p .lane)) (lane-fine s k (p .lane)) .0)))) (free-or-held s k b h),
+    matched (s .marks) (map held (s .lanes)) (k .shape .1) (length-map (s .lanes) held ∙ k .shape .0) (k .marks) .whole)
 
 -- ---- a call moves blocks only between the free ones and its lane's
 pub only-its-own : OnlyItsOwn
-only-its-own pool calls c b size block = call-moves (run (freshWith pool) calls) (reached pool calls) c b block
+only-its-own pool calls c b size block = call-moves (run (freshWith pool) calls) (reached-sound pool calls) c b block
 
 -- a block stays its lane's only where the lane has a group
 pub freed : Freed
 freed pool calls c b size its shut =
     let x : Intake = run (freshWith pool) calls in
-    let next : Sound (after x c .state) = after-sound x (reached pool calls) c in
+    let next : Sound (after x c .state) = after-sound x (reached-sound pool calls) c in
     ⊎-elim (λ same. none-belongs (after x c .state) next (laneOf c) b (its .0, its .1, rw same (its .2)) shut)
     (λ moved. ⊎-elim (λ e. e) (λ still. none-belongs (after x c .state) next (laneOf c) b still shut) (moved .1))
     (only-its-own pool calls c b size (its .0))
 
--- ---- a lane that needs blocks and has the room gets it
-module _ (l : Lane) (p : List ℕ) (room o : ℕ) where
-  abbrev HoldsThen : Step → Type 0
-  HoldsThen d = (a : Added) × ((on : Bool) × ((n : ℕ) × (d ≡ step.Hold a on n)))
-
-  -- a group of n octets for which there is room
-  has-room : (a : Added) (on : Bool) (n : ℕ) → blocksFor n ≤ l .settings .cap → max (blocksFor n) (l .settings .share) + o ≤ 64 → HoldsThen (settle o (holdPlan (l .settings) a on n))
-  unfolding holdPlan settle
-  has-room a on n most beside =
-      (a, (on, (n, simp (le-ltb (l .settings .cap) (blocksFor n) most, le-leb (max (blocksFor n) (l .settings .share) + o) 64 beside))))
-
-  gets : ToBeHeld l p → wouldHold l p ≤ l .settings .cap → max (wouldHold l p) (l .settings .share) + o ≤ 64 → HoldsThen (settle o (packetPlan l p room))
-  unfolding packetPlan acceptedPlan groupingPlan wouldHold
-  gets (opened, sound, new, few, kind) most beside =
-      simp (opened, sound, new, lt-leb 262144 (l .packets) few)
-      (⊎-elim (λ (f : flags p ≡ 1). simp f (has-room _ false _ (simp f at most) (simp f at beside)))
-      (λ (h : (flags p ≡ 0) × (goesOn l (flags p) (count p) ≡ true)).
-      let f : flags p ≡ 0 = h .0 in
-      let on : goesOn l 0 (count p) ≡ true = rw f at (h .1) in
-      simp (f, on) (has-room _ true _ (simp (f, on) at most) (simp (f, on) at beside)))
-      kind)
-
-pub gets-room : GetsRoom
-gets-room pool calls i p out size to-hold most beside =
-    let x : Intake = run (freshWith pool) calls in
-    let then = gets (laneAt (x .state) i) p (length out) (others (x .state .lanes) i) to-hold most beside in
-    let same = settled x (reached pool calls) (run-size (freshWith pool) calls ∙ size) i p out ∙ then .1 .1 .1 in
-    (then .0 .missing, (then .0 .broke, took-reply x i p out ∙ rw same))
-
 -- what was answered is what the step tells
-step-told : (x : Intake) (i : ℕ) (p out left : List ℕ) (a : Answer) → reply x (takes i p out) ≡ took a left
+step-told : (x : Intake) (i : ℕ) (p out left : List ℕ) (a : Answer) → reply x (takes i p out) ≡ toPacket a left
     → answerOf (packetStep (x .state) i p (length (x .pool)) (length out)) ≡ a
 unfolding reply taking
 step-told x i p out left a e = cc
@@ -179,7 +161,7 @@ module _ (s : State) (k : Sound s) (i : ℕ) (p : List ℕ) where
     abbrev Lowest : Step → Type 0
     Lowest d =
         getD (answered s i d .state .marks) b 0
-        ≡ marked i (getD (marksFor s i p) b 0) (freeBelow (marksFor s i p) b) (keeps s i p) (held (laneAt (answered s i d .state) i))
+        ≡ marked s i p b (held (laneAt (answered s i d .state) i))
 
     held-lowest : {d : Step} {m : ℕ} {gave : Bool} → Stepped s i p octets room d → Flagged p d → answerOf d ≡ Held m gave → Lowest d
     unfolding marksAfter laneAfter
@@ -194,10 +176,12 @@ module _ (s : State) (k : Sound s) (i : ℕ) (p : List ℕ) where
         let here : getD (set (s .lanes) i next) i closed ≡ next = getD-set-same (s .lanes) i next closed (omega (arith, k .shape .0, f .small)) in
         rw (same .0, same .1, here) (grown-marked s k i b block (f .small) on n (g .0) (g .1))
 
-pub takes-lowest : TakesLowest
+pub lowest-at : (x : Intake) → Sound (x .state) → (i : ℕ) (p out left : List ℕ) (m : ℕ) (gave : Bool) (b : ℕ) → b < 64 → reply x (takes i p out) ≡ toPacket (Held m gave) left
+    → markAt (after x (takes i p out) .state) b ≡ marked (x .state) i p b (held (laneAt (after x (takes i p out) .state) i))
 unfolding after taking
-takes-lowest pool calls i p out left m gave b size block e =
-    let x : Intake = run (freshWith pool) calls in
-    let k : Sound (x .state) = reached pool calls in
+lowest-at x k i p out left m gave b block e =
     held-lowest (x .state) k i p (length (x .pool)) (length out) b block (stepped (x .state) k i p (length (x .pool)) (length out))
     (step-flagged (x .state) i p (length (x .pool)) (length out)) (step-told x i p out left (Held m gave) e)
+
+pub takes-lowest : TakesLowest
+takes-lowest pool calls i p out left m gave b size block e = lowest-at (run (freshWith pool) calls) (reached-sound pool calls) i p out left m gave b block e

@@ -25,7 +25,7 @@ use Rattle.intake.specs.State.{laneAt, others}
 use Rattle.intake.specs.Calls.{openingRefusal, closingRefusal, settle, packetStep}
 use Rattle.intake.specs.After.{openedWith, opening, closing, marksAfter, poolAfter, outAfter, groupOf, userOf, answerOf, answered, taking, takingPool, takingOut}
 use Rattle.intake.proofs.Taken.{same-state}
-use Rattle.demands.specs.Runs.{Intake, Call, opens, takes, closes, took, reply, after, run, laneOf}
+use Rattle.demands.specs.Runs.{Intake, Call, opens, takes, closes, toPacket, reply, after, run, laneOf}
 use Rattle.demands.specs.Groups.{groupIn, Leaves}
 use Rattle.demands.proofs.Sound.{Sound, not-unsound}
 use Rattle.demands.proofs.Steps.{Stepped, refuses, repeats, strays, ends, holds, stepped}
@@ -123,9 +123,9 @@ run-size x [] = refl
 run-size x (c ∷ calls) = run-size (after x c) calls ∙ after-size x c
 
 pub took-reply : (x : Intake) (i : ℕ) (p out : List ℕ)
-    → reply x (takes i p out) ≡ took (answerOf (stepFor x i p out)) (outFrom (slotIn x i .group) (userData (slotIn x i .lane .settings) p) (stepFor x i p out) out)
+    → reply x (takes i p out) ≡ toPacket (answerOf (stepFor x i p out)) (outFrom (slotIn x i .group) (userData (slotIn x i .lane .settings) p) (stepFor x i p out) out)
 unfolding reply taking takingOut
-took-reply x i p out = ap (took (answerOf (stepFor x i p out))) (out-same (x .state) i (userOf (x .state) i p) (x .pool) out (stepFor x i p out))
+took-reply x i p out = ap (toPacket (answerOf (stepFor x i p out))) (out-same (x .state) i (userOf (x .state) i p) (x .pool) out (stepFor x i p out))
 
 module _ (x : Intake) (k : Sound (x .state)) (size : length (x .pool) ≡ 16384) where
   module _ (i : ℕ) where

@@ -3,7 +3,7 @@
 use Prim.Native.Nat.{ℕ, _≤_, _<_}
 use mathlib.Core.Path.{_≡_}
 use mathlib.Core.Bool.{true, cond}
-use mathlib.Core.List.{List}
+use mathlib.Core.List.{List, [], _∷_, _++_}
 use mathlib.Core.Logic.{_⊎_}
 use mathlib.Core.Option.{Option, none, some}
 use lib.ListN.{length, take}
@@ -18,19 +18,19 @@ use Rattle.writing.specs.Space.{spaceOctets, spaceRefusal, spaceAfter}
 use Rattle.writing.specs.Encapsulation.{shortest, encapOctets, encapRefusal, encapAfter}
 use Rattle.writing.specs.Carries.{IsShortest}
 use Rattle.record.specs.Record.{recordSize, unitsIn}
-use Rattle.record.specs.Reading.{recordReading}
+use Rattle.record.specs.Reading.{recordReading, fileReading}
 use Rattle.record.specs.Writing.{writingRefusal}
-use Rattle.record.specs.Told.{toldRead, octetsOf, afterOf}
+use Rattle.record.specs.Told.{toldRead, toldFile, isPossible, octetsOf, afterOf}
 use Rattle.record.specs.declared.Record.{Record}
 use Rattle.record.specs.declared.RecordRead.the-variants.{Fields}
-use Rattle.pool.specs.Blocks.{poolOctets}
+use Rattle.record.specs.declared.RecordFile.the-variants.{Records}
 use Rattle.lane.specs.declared.Lane.{Lane}
 use Rattle.lane.specs.Lane as lane
 use Rattle.intake.specs.declared.Answer.the-variants.{Repeat}
 use Rattle.intake.specs.State.{laneAt}
-use Rattle.demands.specs.Runs.{freshWith, Call, opens, takes, closes, Reply, opened, took, closed, reply, run, laneOf}
+use Rattle.demands.specs.Runs.{freshWith, IsPool, Call, opens, takes, closes, Reply, toOpening, toPacket, toClosing, run, reached, replied, laneOf}
 use Rattle.demands.specs.Groups.{groupIn}
-use Rattle.demands.specs.Rule.{present, octetsIn, repeats, group, unit, answerTo, endings, units, missingInAll, broken, lastCount, credit}
+use Rattle.demands.specs.Rule.{Accepted, present, octetsIn, repeats, group, unit, answerTo, endings, units, missingInAll, broken, lastCount, credit}
 use Rattle.demands.specs.Past.{Past, shut, since, packetsOf, acceptedOf, isRefused, pastOf, unitsTold}
 
 -- ---- each reader gives back what its writer was given: what lies in the output after the writer reads so, whatever lay there before
@@ -44,7 +44,12 @@ EncapsulationGivenBack =
     (p u x : ℕ) (given out : List ℕ) → encapRefusal p u x (length given) (length out) ≡ 0
     → (reading (encapAfter p u x given out) ≡ told (Encapsulation p u x (shortest p u (length given)) (length given))) × (content (encapAfter p u x given out) ≡ given)
 
--- the fields have the widths of the struct
+-- The writer uses the shortest header that can carry the fields: no packet with a shorter one reads so
+abbrev pub HeaderIsShortest : Type 0
+HeaderIsShortest =
+    (p u x room : ℕ) (given : List ℕ) → AreOctets given → encapRefusal p u x (length given) room ≡ 0 → IsShortest (shortest p u (length given)) p u x given
+
+-- a record whose fields have the widths of the struct
 abbrev pub Wide : Record → Type 0
 Wide r = (r .station < 65536) × (r .apid < 65536) × (r .units < 4294967296) × (r .packets < 4294967296) × (r .missing < 4294967296) × (r .broken < 4294967296)
 
@@ -53,70 +58,112 @@ RecordGivenBack =
     (r : Record) (out : List ℕ) → Wide r → writingRefusal (r .apid) (r .units) (r .packets) (r .missing) (r .broken) (length out) ≡ 0
     → recordReading (take recordSize (afterOf r out)) ≡ toldRead (Fields r)
 
--- ---- Writing what was read gives the same octets for every Space Packet, and for an Encapsulation Packet exactly when its header was the shortest
+-- and a file of such records that are possible, one after another, reads as their number
+pub record Possible : Type 0 where
+  pub credit : Record
+  pub wide : Wide credit
+  pub possible : isPossible credit ≡ true
+
+unfoldable pub fileOf : List Possible → List ℕ
+fileOf [] = []
+fileOf (r ∷ rs) = octetsOf (r .credit) ++ fileOf rs
+
+abbrev pub FileGivenBack : Type 0
+FileGivenBack = (rs : List Possible) → fileReading (fileOf rs) ≡ toldFile (Records (length rs))
+
+-- ---- Writing what was read gives the same octets for every Space Packet, and for an Encapsulation Packet exactly when its header was the shortest; and it
+-- isn't refused where there is room
 abbrev pub SpaceWrittenAgain : Type 0
 SpaceWrittenAgain =
     (s : List ℕ) → AreOctets s → refusal s ≡ 0 → version s ≡ 0
-    → spaceOctets (packetType s) (secondary s) (apid s) (flags s) (count s) (content s) ≡ take (size s) s
+    → (spaceOctets (packetType s) (secondary s) (apid s) (flags s) (count s) (content s) ≡ take (size s) s)
+    × ((room : ℕ) → size s ≤ room → spaceRefusal (packetType s) (secondary s) (apid s) (flags s) (count s) (length (content s)) room ≡ 0)
+
+abbrev pub Same : List ℕ → Type 0
+Same s = encapOctets (protocol s) (user s) (extension s) (content s) ≡ take (size s) s
+
+abbrev pub Shortest : List ℕ → Type 0
+Shortest s = IsShortest (encapHeader s) (protocol s) (user s) (extension s) (content s)
 
 abbrev pub EncapsulationWrittenAgain : Type 0
 EncapsulationWrittenAgain =
     (s : List ℕ) → AreOctets s → refusal s ≡ 0 → version s ≡ 7
-    → (encapOctets (protocol s) (user s) (extension s) (content s) ≡ take (size s) s → IsShortest (encapHeader s) (protocol s) (user s) (extension s) (content s))
-    × (IsShortest (encapHeader s) (protocol s) (user s) (extension s) (content s) → encapOctets (protocol s) (user s) (extension s) (content s) ≡ take (size s) s)
+    → ((Same s → Shortest s) × (Shortest s → Same s))
+    × ((room : ℕ) → size s ≤ room → encapRefusal (protocol s) (user s) (extension s) (length (content s)) room ≡ 0)
 
 abbrev pub RecordWrittenAgain : Type 0
-RecordWrittenAgain = (r : Record) (s : List ℕ) → AreOctets s → recordReading s ≡ toldRead (Fields r) → octetsOf r ≡ s
+RecordWrittenAgain =
+    (r : Record) (s : List ℕ) → AreOctets s → recordReading s ≡ toldRead (Fields r)
+    → (octetsOf r ≡ s) × ((room : ℕ) → recordSize ≤ room → writingRefusal (r .apid) (r .units) (r .packets) (r .missing) (r .broken) room ≡ 0)
 
 -- ---- the lane that has accepted the packets of its past
 abbrev pub laneFrom : Past → Lane
 laneFrom shut = lane.closed
 laneFrom (since settings packets) =
-    record { opened = true; settings = settings; units = units packets; packets = length packets; missing = missingInAll packets; broken = broken packets; last = lastCount packets; grouped = present (group packets); octets = length (octetsIn (group packets)) }
+    record {
+      opened = true;
+      settings = settings;
+      units = units packets;
+      packets = length packets;
+      missing = missingInAll packets;
+      broken = broken packets;
+      last = lastCount packets;
+      grouped = present (group packets);
+      octets = length (octetsIn (group packets));
+    }
 
--- A unit is written at the front of the output; other octets and other answers leave the output alone
+-- A unit is written at the front of the output, where it fits (else the packet is refused, 20); other octets and other answers leave the output alone
 abbrev pub written : List ℕ → Option (List ℕ) → List ℕ
 written out none = out
 written out (some octets) = put out 0 octets
 
--- what a call is replied if it isn't refused, by the grouping rule; none where it must be refused
+-- what a packet is replied by the grouping rule
+abbrev pub ruledPacket : List Accepted → Accepted → List ℕ → Reply
+ruledPacket packets p out = cond (repeats packets p) (toPacket Repeat out) (toPacket (answerTo packets p) (written out (unit packets p)))
+
+-- what a call is replied if it isn't refused; none where it must be, since the lane is closed, or open. Which number a refusal has is demand 1's
 abbrev pub ruled : Past → Call → Option Reply
-ruled shut (opens i settings) = some (opened 0)
+ruled shut (opens i settings) = some (toOpening 0)
 ruled shut (takes i packet out) = none
 ruled shut (closes i out) = none
 ruled (since settings packets) (opens i new) = none
-ruled (since settings packets) (takes i packet out) =
-    some (cond (repeats packets (acceptedOf settings packet)) (took Repeat out) (took (answerTo packets (acceptedOf settings packet)) (written out (unit packets (acceptedOf settings packet)))))
-ruled (since settings packets) (closes i out) = some (closed 0 (put out 0 (octetsOf (credit settings packets))))
+ruled (since settings packets) (takes i packet out) = some (ruledPacket packets (acceptedOf settings packet) out)
+ruled (since settings packets) (closes i out) = some (toClosing 0 (put out 0 (octetsOf (credit settings packets))))
 
 -- ---- for every run from a fresh start: each reply that isn't a refusal is the one that the grouping rule gives for the packets that the lane had
 -- accepted
 abbrev pub RepliesAreTheRules : Type 0
 RepliesAreTheRules =
-    (pool : List ℕ) (calls : List Call) (c : Call) → length pool ≡ poolOctets
-    → (isRefused (reply (run (freshWith pool) calls) c) ≡ true) ⊎ (ruled (pastOf (laneOf c) (freshWith pool) calls) c ≡ some (reply (run (freshWith pool) calls) c))
+    (pool : List ℕ) (calls : List Call) (c : Call) → IsPool pool
+    → (isRefused (replied pool calls c) ≡ true) ⊎ (ruled (pastOf (laneOf c) (freshWith pool) calls) c ≡ some (replied pool calls c))
 
--- and so are the lane's tallies, and the octets of its open group in the pool
+-- the packets that lane i has accepted since its opening
+abbrev pub acceptedBy : ℕ → List ℕ → List Call → List Accepted
+acceptedBy i pool calls = packetsOf (pastOf i (freshWith pool) calls)
+
+-- the lane's tallies are the rule's, and the octets of its open group in the pool
 abbrev pub LanesAreTheRules : Type 0
 LanesAreTheRules =
-    (pool : List ℕ) (calls : List Call) (i : ℕ) → length pool ≡ poolOctets
-    → (laneAt (run (freshWith pool) calls .state) i ≡ laneFrom (pastOf i (freshWith pool) calls))
-    × (groupIn (run (freshWith pool) calls .state) (run (freshWith pool) calls .pool) i ≡ octetsIn (group (packetsOf (pastOf i (freshWith pool) calls))))
+    (pool : List ℕ) (calls : List Call) (i : ℕ) → IsPool pool
+    → (laneAt (reached pool calls) i ≡ laneFrom (pastOf i (freshWith pool) calls))
+    × (groupIn (reached pool calls) (run (freshWith pool) calls .pool) i ≡ octetsIn (group (acceptedBy i pool calls)))
 
 -- ---- So a credit of n units needs n accepted packets that each end a unit, and each was answered Unit
-abbrev pub CreditNeedsUnits : Type 0
-CreditNeedsUnits =
-    (pool : List ℕ) (calls : List Call) (i n : ℕ) (out credited : List ℕ) → length pool ≡ poolOctets
-    → reply (run (freshWith pool) calls) (closes i out) ≡ closed 0 credited → unitsIn credited ≡ n
-    → (length (endings (packetsOf (pastOf i (freshWith pool) calls))) ≡ n) × (n ≤ length (packetsOf (pastOf i (freshWith pool) calls))) × (unitsTold i (freshWith pool) calls ≡ n)
+abbrev pub CreditNeeds : ℕ → Type 0
+CreditNeeds n =
+    (pool : List ℕ) (calls : List Call) (i : ℕ) (out credited : List ℕ) → IsPool pool → replied pool calls (closes i out) ≡ toClosing 0 credited → unitsIn credited ≡ n
+    → (length (endings (acceptedBy i pool calls)) ≡ n) × (n ≤ length (acceptedBy i pool calls)) × (unitsTold i (freshWith pool) calls ≡ n)
 
 pub record Demand2 : Type 0 where
   pub space-given-back : SpaceGivenBack
   pub encapsulation-given-back : EncapsulationGivenBack
+  pub header-is-shortest : HeaderIsShortest
   pub record-given-back : RecordGivenBack
+  pub file-given-back : FileGivenBack
   pub space-written-again : SpaceWrittenAgain
   pub encapsulation-written-again : EncapsulationWrittenAgain
   pub record-written-again : RecordWrittenAgain
   pub replies-are-the-rules : RepliesAreTheRules
   pub lanes-are-the-rules : LanesAreTheRules
-  pub credit-needs-units : CreditNeedsUnits
+  pub credit-needs-units : (n : ℕ) → CreditNeeds n
+  pub credit-of-3000 : CreditNeeds 3000

@@ -2,61 +2,98 @@
 -- Take a source's own calls, run by themselves, in which no packet would bring its held group above its share. If the shared run refuses none of its
 -- openings for want of a promisable share, that source gets the same answers, units and credit in the shared run, given the same settings and output
 -- space. No source ever holds more than its cap. No block belongs to two sources, and a freed block can be used again.
-use Prim.Native.Nat.{ℕ, _+_, _-_, _/_, _≤_, _<_, max}
-use Prim.{Unit}
+use Prim.Native.Nat.{ℕ, _+_, _/_, _≤_, _<_, max}
 use mathlib.Core.Path.{_≡_}
 use mathlib.Core.Bool.{Bool, true, false, cond, _&&_}
-use mathlib.Core.List.{List, [], _∷_, map}
+use mathlib.Core.List.{List, [], _∷_, _++_, map}
 use mathlib.Core.Logic.{_⊎_}
 use lib.ListN.{length, getD, take}
 use lib.Dec.{eqb, ltb}
 use Rattle.packet.specs.Space as space
 use Rattle.packet.specs.Space.{flags}
-use Rattle.pool.specs.Blocks.{blockOctets, poolOctets, free, mark, freed}
+use Rattle.record.specs.Record.{recordSize}
+use Rattle.pool.specs.Blocks.{blockOctets, free, mark, freed}
 use Rattle.pool.specs.Octets.{place}
 use Rattle.pool.specs.Matching.{count, isFree, sum}
+use Rattle.lane.specs.declared.Settings.{Settings}
 use Rattle.lane.specs.declared.Lane.{Lane}
-use Rattle.lane.specs.Lane.{held}
+use Rattle.lane.specs.Lane.{held, illegal}
 use Rattle.lane.specs.Packets.{fault}
-use Rattle.lane.specs.Grouping.{repeats, goesOn}
+use Rattle.lane.specs.Grouping.{repeats}
 use Rattle.intake.specs.declared.State.{State}
-use Rattle.intake.specs.declared.Answer.the-variants.{Held}
-use Rattle.intake.specs.State.{laneAt, others}
-use Rattle.demands.specs.Runs.{Intake, freshWith, Call, takes, Reply, opened, took, reply, after, run, replies, laneOf, own, repliesTo}
-use Rattle.demands.specs.Order.{wouldHold}
-
--- "an empty pool": a fresh state and any pool of 16,384 octets, whatever lies in it
-abbrev pub Empty : List ℕ → Type 0
-Empty pool = length pool ≡ poolOctets
-
--- the state after a run from there
-abbrev pub reached : List ℕ → List Call → State
-reached pool calls = run (freshWith pool) calls .state
+use Rattle.intake.specs.declared.Answer.the-variants.{Repeat, Held}
+use Rattle.intake.specs.State.{laneAt, total, others}
+use Rattle.demands.specs.Runs.{Intake, freshWith, IsPool, Call, opens, takes, closes, Reply, toOpening, toPacket, after, run, replies, reached, replied, next, laneOf, own, repliesTo}
+use Rattle.demands.specs.Order.{wouldHold, wouldWrite}
+use Rattle.demands.specs.Past.{isRefused}
 
 -- ---- the same answers, units and credit as alone
--- no packet of a run brings lane i's held group above its share
-unfoldable pub StaysInShare : ℕ → Intake → List Call → Type 0
-StaysInShare i x [] = Unit {0}
-StaysInShare i x (c ∷ calls) = (held (laneAt (after x c .state) i) ≤ laneAt (after x c .state) i .settings .share) × StaysInShare i (after x c) calls
+-- no packet of a run brings lane i's held group above its share: after the first n calls, for every n, it holds no more. (A packet that is refused brings
+-- nothing. Alone, one that would bring it above its share is refused room only above its cap, and then in company too.)
+abbrev pub StaysInShare : ℕ → Intake → List Call → Type 0
+StaysInShare i x calls = (n : ℕ) → held (laneAt (run x (take n calls) .state) i) ≤ laneAt (run x (take n calls) .state) i .settings .share
 
 -- none of the replies refuses an opening for want of a promisable share
-unfoldable pub NoneUnpromised : List Reply → Type 0
-NoneUnpromised [] = Unit {0}
-NoneUnpromised (r ∷ rs) = (r ≡ opened 23 → ⊥) × NoneUnpromised rs
+abbrev pub NoneUnpromised : List Reply → Type 0
+NoneUnpromised rs = (n : ℕ) → getD rs n (toOpening 0) ≡ toOpening 23 → ⊥
 
--- the replies hold the answers, and the outputs with the units and the credit; the pools may differ
+-- the replies hold the answers, and the outputs with the units and the credit. The calls are the same, with their settings and outputs; the pools may
+-- differ
 abbrev pub AsAlone : Type 0
 AsAlone =
-    (i : ℕ) (calls : List Call) (pool alone : List ℕ) → Empty pool → Empty alone
+    (i : ℕ) (calls : List Call) (pool alone : List ℕ) → IsPool pool → IsPool alone
     → StaysInShare i (freshWith alone) (own i calls)
     → NoneUnpromised (repliesTo i (freshWith pool) calls)
     → repliesTo i (freshWith pool) calls ≡ replies (freshWith alone) (own i calls)
+
+-- ---- what has nothing amiss isn't refused
+-- a packet with nothing amiss but perhaps the room: its lane is open and hasn't taken too many, it has no fault, and the unit that it ends, if it ends one,
+-- fits the output
+abbrev pub NothingAmiss : Lane → List ℕ → List ℕ → Type 0
+NothingAmiss l packet out = (l .opened ≡ true) × (fault (l .settings) packet ≡ 0) × (l .packets < 262144) × (wouldWrite l packet ≤ length out)
+
+-- a lane in its share isn't refused room
+abbrev pub RoomInShare : Type 0
+RoomInShare =
+    (pool : List ℕ) (calls : List Call) (i : ℕ) (packet out : List ℕ) → IsPool pool → NothingAmiss (laneAt (reached pool calls) i) packet out
+    → wouldHold (laneAt (reached pool calls) i) packet ≤ laneAt (reached pool calls) i .settings .share
+    → isRefused (replied pool calls (takes i packet out)) ≡ false
+
+-- nor is one that its cap and the other lanes leave the room
+abbrev pub HasRoom : State → ℕ → List ℕ → Type 0
+HasRoom s i packet =
+    (wouldHold (laneAt s i) packet ≤ laneAt s i .settings .cap)
+    × (max (wouldHold (laneAt s i) packet) (laneAt s i .settings .share) + others (s .lanes) i ≤ 64)
+
+abbrev pub GetsRoom : Type 0
+GetsRoom =
+    (pool : List ℕ) (calls : List Call) (i : ℕ) (packet out : List ℕ) → IsPool pool → NothingAmiss (laneAt (reached pool calls) i) packet out
+    → HasRoom (reached pool calls) i packet → isRefused (replied pool calls (takes i packet out)) ≡ false
+
+-- a packet with the count of the last one is answered Repeat, at a full tally too, and nothing changes
+abbrev pub RepeatsChangeNothing : Type 0
+RepeatsChangeNothing =
+    (pool : List ℕ) (calls : List Call) (i : ℕ) (packet out : List ℕ) → IsPool pool
+    → laneAt (reached pool calls) i .opened ≡ true → fault (laneAt (reached pool calls) i .settings) packet ≡ 0
+    → repeats (laneAt (reached pool calls) i) (space.count packet) ≡ true
+    → (replied pool calls (takes i packet out) ≡ toPacket Repeat out) × (after (run (freshWith pool) calls) (takes i packet out) ≡ run (freshWith pool) calls)
+
+abbrev pub Opens : Type 0
+Opens =
+    (pool : List ℕ) (calls : List Call) (i : ℕ) (settings : Settings) → IsPool pool → i < 8 → laneAt (reached pool calls) i .opened ≡ false
+    → illegal settings ≡ false → settings .share + total (reached pool calls .lanes) ≤ 64
+    → replied pool calls (opens i settings) ≡ toOpening 0
+
+abbrev pub Closes : Type 0
+Closes =
+    (pool : List ℕ) (calls : List Call) (i : ℕ) (out : List ℕ) → IsPool pool → laneAt (reached pool calls) i .opened ≡ true
+    → recordSize ≤ length out → isRefused (replied pool calls (closes i out)) ≡ false
 
 -- ---- blocks: the mark of a block is the lane's number x 64 and a place, or says that it is free
 abbrev pub markAt : State → ℕ → ℕ
 markAt s b = getD (s .marks) b 0
 
--- block b is one of the 64 and belongs to lane i
+-- block b is one of the 64 and belongs to lane i, one of the eight: a free mark names none of them
 abbrev pub Belongs : State → ℕ → ℕ → Type 0
 Belongs s b i = (b < 64) × (i < 8) × (markAt s b / 64 ≡ i)
 
@@ -66,86 +103,101 @@ blocksOf s i = count (λ o. eqb (o / 64) i) (s .marks)
 -- No source ever holds more than its cap: the blocks that belong to it are those that its octets need, and no more than its cap
 abbrev pub WithinCap : Type 0
 WithinCap =
-    (pool : List ℕ) (calls : List Call) (i : ℕ) → Empty pool → i < 8
+    (pool : List ℕ) (calls : List Call) (i : ℕ) → IsPool pool → i < 8
     → (blocksOf (reached pool calls) i ≡ held (laneAt (reached pool calls) i)) × (held (laneAt (reached pool calls) i) ≤ laneAt (reached pool calls) i .settings .cap)
 
 -- the block in which octet k of lane i's group lies
 abbrev pub blockOf : State → ℕ → ℕ → ℕ
 blockOf s i k = place (s .marks) i k / blockOctets
 
--- No block belongs to two sources: every octet of a group lies in a block of its lane, and octets in one block are of one lane
+-- No block belongs to two sources: every octet of a group lies in a block of its lane, and octets in one block are of one lane and of one place in its group
 abbrev pub NoBlockInTwo : Type 0
 NoBlockInTwo =
-    (pool : List ℕ) (calls : List Call) (i j k l : ℕ) → Empty pool → i < 8 → j < 8
+    (pool : List ℕ) (calls : List Call) (i j k l : ℕ) → IsPool pool
     → k < laneAt (reached pool calls) i .octets → l < laneAt (reached pool calls) j .octets
     → Belongs (reached pool calls) (blockOf (reached pool calls) i k) i
-    × (blockOf (reached pool calls) i k ≡ blockOf (reached pool calls) j l → i ≡ j)
+    × (blockOf (reached pool calls) i k ≡ blockOf (reached pool calls) j l → (i ≡ j) × (k / blockOctets ≡ l / blockOctets))
 
--- ---- no sequence of calls loses a block: the free blocks and the held ones are always 64 in all
+-- no sequence of calls loses a block: each is free or belongs to a lane, and the free blocks and the held ones are always 64 in all
 abbrev pub NoneLost : Type 0
 NoneLost =
-    (pool : List ℕ) (calls : List Call) → Empty pool
-    → count isFree (reached pool calls .marks) + sum (map held (reached pool calls .lanes)) ≡ 64
+    (pool : List ℕ) (calls : List Call) → IsPool pool
+    → ((b : ℕ) → b < 64 → (markAt (reached pool calls) b ≡ free) ⊎ ((i : ℕ) × Belongs (reached pool calls) b i))
+    × (count isFree (reached pool calls .marks) + sum (map held (reached pool calls .lanes)) ≡ 64)
 
 -- a call moves blocks only between the free ones and its lane's
 abbrev pub OnlyItsOwn : Type 0
 OnlyItsOwn =
-    (pool : List ℕ) (calls : List Call) (c : Call) (b : ℕ) → Empty pool → b < 64
-    → (markAt (after (run (freshWith pool) calls) c .state) b ≡ markAt (reached pool calls) b)
+    (pool : List ℕ) (calls : List Call) (c : Call) (b : ℕ) → IsPool pool → b < 64
+    → (markAt (next pool calls c) b ≡ markAt (reached pool calls) b)
     ⊎ (((markAt (reached pool calls) b ≡ free) ⊎ Belongs (reached pool calls) b (laneOf c))
-    × ((markAt (after (run (freshWith pool) calls) c .state) b ≡ free) ⊎ Belongs (after (run (freshWith pool) calls) c .state) b (laneOf c)))
+    × ((markAt (next pool calls c) b ≡ free) ⊎ Belongs (next pool calls c) b (laneOf c)))
 
--- after a group ends, is given up or its lane closes, and none is open, its blocks are free
+-- octets not written stay: all that aren't in the group that the call's lane then has
+abbrev pub OctetsStay : Type 0
+OctetsStay =
+    (pool : List ℕ) (calls : List Call) (c : Call) (at : ℕ) → IsPool pool
+    → ((k : ℕ) → k < laneAt (next pool calls c) (laneOf c) .octets → place (next pool calls c .marks) (laneOf c) k ≡ at → ⊥)
+    → getD (after (run (freshWith pool) calls) c .pool) at 0 ≡ getD (run (freshWith pool) calls .pool) at 0
+
+-- ---- a freed block can be used again
+-- the blocks of a lane that has no open group after its call are free: the group ended or was given up, or the lane was closed. (Those of a group that a first
+-- packet gives up are freed before the new group's are taken, below)
 abbrev pub Freed : Type 0
 Freed =
-    (pool : List ℕ) (calls : List Call) (c : Call) (b : ℕ) → Empty pool → Belongs (reached pool calls) b (laneOf c)
-    → laneAt (after (run (freshWith pool) calls) c .state) (laneOf c) .grouped ≡ false
-    → markAt (after (run (freshWith pool) calls) c .state) b ≡ free
+    (pool : List ℕ) (calls : List Call) (c : Call) (b : ℕ) → IsPool pool → Belongs (reached pool calls) b (laneOf c)
+    → laneAt (next pool calls c) (laneOf c) .grouped ≡ false
+    → markAt (next pool calls c) b ≡ free
 
--- ---- the next lane that needs a block and has the room gets it
--- a packet that is to be held: it comes to an open lane without a fault, is no repeat nor one too many, and begins a group or adds to one
-abbrev pub ToBeHeld : Lane → List ℕ → Type 0
-ToBeHeld l packet =
-    (l .opened ≡ true) × (fault (l .settings) packet ≡ 0) × (repeats l (space.count packet) ≡ false) × (l .packets < 262144)
-    × ((flags packet ≡ 1) ⊎ ((flags packet ≡ 0) × (goesOn l (flags packet) (space.count packet) ≡ true)))
-
--- it is held where its lane's cap and the other lanes leave the room
-abbrev pub GetsRoom : Type 0
-GetsRoom =
-    (pool : List ℕ) (calls : List Call) (i : ℕ) (packet out : List ℕ) → Empty pool
-    → ToBeHeld (laneAt (reached pool calls) i) packet
-    → wouldHold (laneAt (reached pool calls) i) packet ≤ laneAt (reached pool calls) i .settings .cap
-    → max (wouldHold (laneAt (reached pool calls) i) packet) (laneAt (reached pool calls) i .settings .share) + others (reached pool calls .lanes) i ≤ 64
-    → (m : ℕ) × ((gave : Bool) × (reply (run (freshWith pool) calls) (takes i packet out) ≡ took (Held m gave) out))
-
--- and gets the lowest-numbered free blocks, in rising order, after a given-up group's are freed; every other block keeps its mark. Flags 1 keep none of
--- the lane's blocks, flags 0 all
+-- a packet that is held takes the lowest-numbered free blocks, in rising order, after a given-up group's are freed; every other block keeps its mark. Flags 1
+-- keep none of the lane's blocks, flags 0 all
 abbrev pub freeBelow : List ℕ → ℕ → ℕ
 freeBelow marks b = count isFree (take b marks)
 
+-- the marks among which it looks for free blocks, and how many blocks the lane keeps
 abbrev pub marksFor : State → ℕ → List ℕ → List ℕ
 marksFor s i packet = cond (eqb (flags packet) 1) (freed (s .marks) i) (s .marks)
 
 abbrev pub keeps : State → ℕ → List ℕ → ℕ
 keeps s i packet = cond (eqb (flags packet) 1) 0 (held (laneAt s i))
 
--- the mark of a block that bore m, where k free blocks are below it and the lane, which keeps so many places, then holds h
-abbrev pub marked : ℕ → ℕ → ℕ → ℕ → ℕ → ℕ
-marked i m k kept h = cond (isFree m && ltb (kept + k) h) (mark i (kept + k)) m
+-- the place that block b gets if it is free: after those that the lane keeps and those that are free below it
+abbrev pub placeFor : State → ℕ → List ℕ → ℕ → ℕ
+placeFor s i packet b = keeps s i packet + freeBelow (marksFor s i packet) b
+
+-- the mark of block b where the lane then holds so many
+abbrev pub marked : State → ℕ → List ℕ → ℕ → ℕ → ℕ
+marked s i packet b holds =
+    cond (isFree (getD (marksFor s i packet) b 0) && ltb (placeFor s i packet b) holds) (mark i (placeFor s i packet b)) (getD (marksFor s i packet) b 0)
 
 abbrev pub TakesLowest : Type 0
 TakesLowest =
-    (pool : List ℕ) (calls : List Call) (i : ℕ) (packet out left : List ℕ) (m : ℕ) (gave : Bool) (b : ℕ) → Empty pool → b < 64
-    → reply (run (freshWith pool) calls) (takes i packet out) ≡ took (Held m gave) left
-    → markAt (after (run (freshWith pool) calls) (takes i packet out) .state) b
-    ≡ marked i (getD (marksFor (reached pool calls) i packet) b 0) (freeBelow (marksFor (reached pool calls) i packet) b) (keeps (reached pool calls) i packet) (held (laneAt (after (run (freshWith pool) calls) (takes i packet out) .state) i))
+    (pool : List ℕ) (calls : List Call) (i : ℕ) (packet out left : List ℕ) (m : ℕ) (gave : Bool) (b : ℕ) → IsPool pool → b < 64
+    → replied pool calls (takes i packet out) ≡ toPacket (Held m gave) left
+    → markAt (next pool calls (takes i packet out)) b ≡ marked (reached pool calls) i packet b (held (laneAt (next pool calls (takes i packet out)) i))
+
+-- so: a block that a call of one lane frees, and that the next packet, of whatever lane, needs and has the room for, is that lane's
+abbrev pub UsedAgain : Type 0
+UsedAgain =
+    (pool : List ℕ) (calls : List Call) (c : Call) (b j : ℕ) (packet out : List ℕ) → IsPool pool
+    → Belongs (reached pool calls) b (laneOf c) → markAt (next pool calls c) b ≡ free
+    → NothingAmiss (laneAt (next pool calls c) j) packet out → repeats (laneAt (next pool calls c) j) (space.count packet) ≡ false
+    → HasRoom (next pool calls c) j packet
+    → placeFor (next pool calls c) j packet b < wouldHold (laneAt (next pool calls c) j) packet
+    → Belongs (reached pool (calls ++ c ∷ takes j packet out ∷ [])) b j
 
 pub record Demand3 : Type 0 where
   pub as-alone : AsAlone
+  pub room-in-share : RoomInShare
+  pub gets-room : GetsRoom
+  pub repeats-change-nothing : RepeatsChangeNothing
+  pub opens : Opens
+  pub closes : Closes
   pub within-cap : WithinCap
   pub no-block-in-two : NoBlockInTwo
   pub none-lost : NoneLost
   pub only-its-own : OnlyItsOwn
+  pub octets-stay : OctetsStay
   pub freed : Freed
-  pub gets-room : GetsRoom
   pub takes-lowest : TakesLowest
+  pub used-again : UsedAgain

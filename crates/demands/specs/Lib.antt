@@ -6,3 +6,5 @@ pub mod Past
 pub mod Demand2
 pub mod Demand3
 pub mod Starred
+pub mod Examples
+pub mod ShutOut

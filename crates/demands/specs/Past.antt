@@ -8,7 +8,7 @@ use Rattle.packet.specs.Space.{flags, count}
 use Rattle.lane.specs.declared.Settings.{Settings}
 use Rattle.lane.specs.Packets.{userData}
 use Rattle.intake.specs.declared.Answer.the-variants.{Refused, Repeat, Stray, Held, Unit}
-use Rattle.demands.specs.Runs.{Intake, Call, opens, takes, closes, Reply, opened, took, closed, reply, after, names}
+use Rattle.demands.specs.Runs.{Intake, Call, opens, takes, closes, Reply, toOpening, toPacket, toClosing, reply, after, names}
 use Rattle.demands.specs.Rule.{Accepted}
 
 -- closed; or open, with the settings of the opening and the packets accepted since, the newest first
@@ -26,22 +26,22 @@ acceptedOf settings packet = record { flags = flags packet; count = count packet
 
 -- A refused packet counts as not received, and a Repeat changes nothing
 abbrev pub isRefused : Reply → Bool
-isRefused (opened refusal) = not (eqb refusal 0)
-isRefused (took (Refused number) out) = true
-isRefused (took Repeat out) = false
-isRefused (took (Stray missing gave) out) = false
-isRefused (took (Held missing gave) out) = false
-isRefused (took (Unit octets missing gave) out) = false
-isRefused (closed refusal out) = not (eqb refusal 0)
+isRefused (toOpening refusal) = not (eqb refusal 0)
+isRefused (toPacket (Refused number) out) = true
+isRefused (toPacket Repeat out) = false
+isRefused (toPacket (Stray missing gave) out) = false
+isRefused (toPacket (Held missing gave) out) = false
+isRefused (toPacket (Unit octets missing gave) out) = false
+isRefused (toClosing refusal out) = not (eqb refusal 0)
 
 abbrev pub isAccepted : Reply → Bool
-isAccepted (opened refusal) = false
-isAccepted (took (Refused number) out) = false
-isAccepted (took Repeat out) = false
-isAccepted (took (Stray missing gave) out) = true
-isAccepted (took (Held missing gave) out) = true
-isAccepted (took (Unit octets missing gave) out) = true
-isAccepted (closed refusal out) = false
+isAccepted (toOpening refusal) = false
+isAccepted (toPacket (Refused number) out) = false
+isAccepted (toPacket Repeat out) = false
+isAccepted (toPacket (Stray missing gave) out) = true
+isAccepted (toPacket (Held missing gave) out) = true
+isAccepted (toPacket (Unit octets missing gave) out) = true
+isAccepted (toClosing refusal out) = false
 
 abbrev pub withPacket : Past → List ℕ → Past
 withPacket shut packet = shut
@@ -63,13 +63,13 @@ pastOf i x calls = pastFrom i shut x calls
 
 -- ---- how often lane i has been answered Unit since its opening
 abbrev pub isUnit : Reply → Bool
-isUnit (opened refusal) = false
-isUnit (took (Refused number) out) = false
-isUnit (took Repeat out) = false
-isUnit (took (Stray missing gave) out) = false
-isUnit (took (Held missing gave) out) = false
-isUnit (took (Unit octets missing gave) out) = true
-isUnit (closed refusal out) = false
+isUnit (toOpening refusal) = false
+isUnit (toPacket (Refused number) out) = false
+isUnit (toPacket Repeat out) = false
+isUnit (toPacket (Stray missing gave) out) = false
+isUnit (toPacket (Held missing gave) out) = false
+isUnit (toPacket (Unit octets missing gave) out) = true
+isUnit (toClosing refusal out) = false
 
 abbrev pub tally : ℕ → Call → Reply → ℕ
 tally n (opens i settings) r = cond (isRefused r) n 0

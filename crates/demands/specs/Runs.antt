@@ -1,11 +1,12 @@
--- Any run of openings, packets and closings, with state and pool handed back as the last call left them. What a call does is what its promise says,
--- for every input; so this is how the code runs.
+-- Any run of openings, packets and closings, with state and pool handed back as the last call left them. What a call replies and leaves is what the
+-- `ensures` of intake::open_lane, take_packet and close_lane say, for every input; so this is how the code runs.
 use Prim.Native.Nat.{ℕ}
 use mathlib.Core.Path.{_≡_}
 use mathlib.Core.Bool.{Bool, cond}
 use mathlib.Core.List.{List, [], _∷_}
 use lib.ListN.{length}
 use lib.Dec.{eqb}
+use Rattle.pool.specs.Blocks.{poolOctets}
 use Rattle.lane.specs.declared.Settings.{Settings}
 use Rattle.intake.specs.declared.State.{State}
 use Rattle.intake.specs.declared.Answer.{Answer}
@@ -21,9 +22,12 @@ pub record Intake : Type 0 where
   pub state : State
   pub pool : List ℕ
 
--- a fresh start, with any pool
+-- a fresh start; the pool is any of 16,384 octets, whatever lies in it
 abbrev pub freshWith : List ℕ → Intake
 freshWith pool = record { state = freshState; pool = pool }
+
+abbrev pub IsPool : List ℕ → Type 0
+IsPool pool = length pool ≡ poolOctets
 
 -- ---- a call names a lane by any number; a packet and a closing come with an output
 pub data Call : Type 0 where
@@ -33,15 +37,15 @@ pub data Call : Type 0 where
 
 -- what comes back: an opening's or a closing's refusal, or 0; a packet's answer; and the output after the call
 pub data Reply : Type 0 where
-  opened : (refusal : ℕ) → Reply
-  took : (answer : Answer) (out : List ℕ) → Reply
-  closed : (refusal : ℕ) (out : List ℕ) → Reply
+  toOpening : (refusal : ℕ) → Reply
+  toPacket : (answer : Answer) (out : List ℕ) → Reply
+  toClosing : (refusal : ℕ) (out : List ℕ) → Reply
 
 unfoldable pub reply : Intake → Call → Reply
-reply x (opens i settings) = opened (opening (x .state) i settings (length (x .pool)) .refusal)
+reply x (opens i settings) = toOpening (opening (x .state) i settings (length (x .pool)) .refusal)
 reply x (takes i packet out) =
-    took (taking (x .state) i packet (length (x .pool)) (length out) .answer) (takingOut (x .state) i packet (x .pool) out)
-reply x (closes i out) = closed (closing (x .state) i (length (x .pool)) (length out) .refusal) (closingOut (x .state) i (length (x .pool)) out)
+    toPacket (taking (x .state) i packet (length (x .pool)) (length out) .answer) (takingOut (x .state) i packet (x .pool) out)
+reply x (closes i out) = toClosing (closing (x .state) i (length (x .pool)) (length out) .refusal) (closingOut (x .state) i (length (x .pool)) out)
 
 unfoldable pub after : Intake → Call → Intake
 after x (opens i settings) = record { state = opening (x .state) i settings (length (x .pool)) .state; pool = x .pool }
@@ -57,6 +61,16 @@ run x (c ∷ calls) = run (after x c) calls
 unfoldable pub replies : Intake → List Call → List Reply
 replies x [] = []
 replies x (c ∷ calls) = reply x c ∷ replies (after x c) calls
+
+-- from a fresh start: the state that is reached; what one more call is replied, and the state after it
+abbrev pub reached : List ℕ → List Call → State
+reached pool calls = run (freshWith pool) calls .state
+
+abbrev pub replied : List ℕ → List Call → Call → Reply
+replied pool calls c = reply (run (freshWith pool) calls) c
+
+abbrev pub next : List ℕ → List Call → Call → State
+next pool calls c = after (run (freshWith pool) calls) c .state
 
 -- ---- A source is a lane number; its own calls are all those that name it, in order
 abbrev pub laneOf : Call → ℕ

@@ -13,17 +13,20 @@ use Rattle.lane.specs.declared.Settings.{Settings}
 abbrev pub misflags : ℕ → ℕ → Bool
 misflags x n = (eqb x 1 && eqb n 0) || (eqb x 0 && not (eqb n 0))
 
--- reading, 12, 13, 14, 15, 16, 17
-abbrev pub faultTests : Settings → List ℕ → List (Test ℕ)
-faultTests l s =
-    (not (eqb (refusal s) 0) gives refusal s)
-    ∷ (ltb (size s) (length s) gives 12)
+-- 12, 13, 14, 15, 16, 17
+abbrev pub laneTests : Settings → List ℕ → List (Test ℕ)
+laneTests l s =
+    (ltb (size s) (length s) gives 12)
     ∷ (isEncapsulation s gives 13)
     ∷ (eqb (packetType s) 1 gives 14)
     ∷ (not (eqb (apid s) (l .apid)) gives 15)
     ∷ (misflags (secondary s) (l .secondary) gives 16)
     ∷ (ltb (dataOctets s) (l .secondary) gives 17)
     ∷ []
+
+-- reading, then these
+abbrev pub faultTests : Settings → List ℕ → List (Test ℕ)
+faultTests l s = (not (eqb (refusal s) 0) gives refusal s) ∷ laneTests l s
 
 unfoldable pub fault : Settings → List ℕ → ℕ
 fault l s = first 0 (faultTests l s)

@@ -1,8 +1,9 @@
 -- A test has two outcomes: what a proof needs to follow an order of refusals; and an answer is given exactly when it has its cause.
 use Prim.Native.Nat.{ℕ, _<_}
-use mathlib.Core.Path.{_≡_, refl, sym, subst}
-use mathlib.Core.List.{List, [], _∷_}
-use mathlib.Core.Bool.{Bool, true, false, _&&_, _||_, true≢false}
+use Prim.{Unit}
+use mathlib.Core.Path.{_≡_, refl, sym, ap, subst}
+use mathlib.Core.List.{List, [], _∷_, _++_}
+use mathlib.Core.Bool.{Bool, true, false, cond, not, _&&_, _||_, true≢false}
 use native.Mathlib.Omega.{arith}
 use borrow.Author.Tests.{eq-eqb, ne-eqb, eqb-true, eqb-false}
 use lib.Dec.{eqb}
@@ -36,6 +37,26 @@ module _ {A : Type 0} (otherwise : A) where
   -- the law, for every order of refusals
   pub exactly : (tests : List (Test A)) (a : A) → (first otherwise tests ≡ a → Because otherwise tests a) × (Because otherwise tests a → first otherwise tests ≡ a)
   exactly tests a = (λ e. subst (Because otherwise tests) e (verdict tests), given tests a)
+
+-- ---- orders one after another
+pub first-append : {A : Type 0} (otherwise : A) (tests more : List (Test A)) → first otherwise (tests ++ more) ≡ first (first otherwise more) tests
+first-append otherwise [] more = refl
+first-append otherwise ((b gives a) ∷ tests) more = ap (cond b a) (first-append otherwise tests more)
+
+-- none of the numbers is 0
+abbrev pub Numbers : List (Test ℕ) → Type 0
+Numbers [] = Unit {0}
+Numbers ((b gives n) ∷ tests) = (0 < n) × Numbers tests
+
+pub numbers-append : (tests more : List (Test ℕ)) → Numbers tests → Numbers more → Numbers (tests ++ more)
+numbers-append [] more t m = m
+numbers-append ((b gives n) ∷ tests) more t m = (t .0, numbers-append tests more (t .1) m)
+
+-- then what comes after the tests is asked where they give 0
+pub first-unless : (rest : ℕ) (tests : List (Test ℕ)) → Numbers tests → first rest tests ≡ cond (not (eqb (first 0 tests) 0)) (first 0 tests) rest
+first-unless rest [] t = refl
+first-unless rest ((true gives n) ∷ tests) t = simp (ne-eqb n 0 (λ z. omega (arith, t .0)))
+first-unless rest ((false gives n) ∷ tests) t = first-unless rest tests (t .1)
 
 -- ---- what was told says whether the call refused
 module _ (refusal : ℕ) (values : List ℕ) where

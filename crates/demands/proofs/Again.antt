@@ -1,0 +1,131 @@
+-- Octets not written stay, since storing sets places of the lane's group only; and a freed block is used again: it is free among the marks in which the next lane
+-- looks, so where its place is due it gets that lane's mark.
+use Prim.Native.Nat.{ℕ, zero, suc, _+_, _/_, _≤_, _<_, max}
+use mathlib.Core.Path.{_≡_, refl, sym, ap, subst, _∙_}
+use mathlib.Core.Bool.{Bool, true, false, cond, not, _&&_}
+use mathlib.Core.List.{List, [], _∷_, _++_}
+use native.Mathlib.Omega.{arith}
+use borrow.Author.Tests.{eqb-true, eq-eqb, le-leb, le-ltb, lt-ltb, lt-leb}
+use lib.Dec.{eqb}
+use lib.ListN.{length, getD, set}
+use lib.Seq.{getD-set-other}
+use Rattle.octets.proofs.Order.{either, both}
+use Rattle.packet.specs.Space.{flags, count}
+use Rattle.pool.specs.Blocks.{free, mark, blocksFor, freedMark, freed}
+use Rattle.pool.specs.Octets.{place, stored}
+use Rattle.pool.specs.Matching.{isFree}
+use Rattle.lane.specs.declared.Lane.{Lane}
+use Rattle.lane.specs.declared.Added.{Added}
+use Rattle.lane.specs.declared.Step.{Step}
+use Rattle.lane.specs.declared.Step.the-variants.{Hold}
+use Rattle.lane.specs.Lane.{held}
+use Rattle.lane.specs.Packets.{fault, userOctets}
+use Rattle.lane.specs.Grouping.{repeats, goesOn}
+use Rattle.lane.specs.Plans.{holdPlan, groupingPlan, acceptedPlan, packetPlan}
+use Rattle.lane.specs.Steps.{laneAfter}
+use Rattle.lane.proofs.Fine.{is-fine}
+use Rattle.intake.specs.declared.State.{State}
+use Rattle.intake.specs.declared.Answer.the-variants.{Held}
+use Rattle.intake.specs.State.{laneAt, others}
+use Rattle.intake.specs.Calls.{settle}
+use Rattle.intake.specs.After.{marksAfter, poolAfter, userOf, taking, takingPool}
+use Rattle.demands.specs.Runs.{Intake, freshWith, Call, opens, takes, closes, toPacket, reply, after, run, next}
+use Rattle.demands.specs.Order.{wouldHold}
+use Rattle.demands.specs.Demand3.{markAt, Belongs, marksFor, placeFor, OctetsStay, UsedAgain}
+use Rattle.demands.proofs.Sound.{Sound, lane-fine, opened-small}
+use Rattle.demands.proofs.Steps.{Stepped, refuses, repeats as again, strays, ends, holds, stepped}
+use Rattle.demands.proofs.Calls.{after-sound, reached-sound}
+use Rattle.demands.proofs.View.{Slot, stepFor, after-size, run-size, settled, took-reply, took-slot}
+use Rattle.demands.proofs.Shared.{lowest-at}
+
+-- ---- storing sets the places of the octets that are stored
+stored-elsewhere : (marks : List ℕ) (i : ℕ) (pool : List ℕ) (k : ℕ) (ds : List ℕ) (at : ℕ) → ((j : ℕ) → k ≤ j → j < k + length ds → place marks i j ≡ at → ⊥)
+    → getD (stored marks i pool k ds) at 0 ≡ getD pool at 0
+unfolding stored
+stored-elsewhere marks i pool k [] at other = refl
+stored-elsewhere marks i pool k (d ∷ ds) at other =
+    stored-elsewhere marks i (set pool (place marks i k) d) (k + 1) ds at (λ j low high. other j (omega arith) (omega arith))
+    ∙ getD-set-other pool (place marks i k) at d 0 (λ e. other k (omega arith) (omega arith) (sym e))
+
+module _ (s : State) (i : ℕ) (p pool : List ℕ) (at octets room : ℕ) where
+  step-stays : {d : Step} → Stepped s i p octets room d
+      → ((k : ℕ) → k < laneAfter (laneAt s i) d .octets → place (marksAfter (s .marks) i (laneAt s i) d) i k ≡ at → ⊥)
+      → getD (poolAfter (s .marks) i (laneAt s i) d (userOf s i p) pool) at 0 ≡ getD pool at 0
+  unfolding poolAfter marksAfter laneAfter
+  step-stays (refuses n h t) other = refl
+  step-stays again other = refl
+  step-stays (strays a f) other = refl
+  step-stays (ends a on n f e h) other = refl
+  step-stays (holds a on n f e) other = stored-elsewhere _ i pool (cond on (laneAt s i .octets) 0) (userOf s i p) at (λ j low high. other j (omega arith))
+
+-- the lane after a packet is the step's
+lane-after : (x : Intake) → Sound (x .state) → length (x .pool) ≡ 16384 → (i : ℕ) (p out : List ℕ) → laneAt (after x (takes i p out) .state) i ≡ laneAfter (laneAt (x .state) i) (stepFor x i p out)
+lane-after x k size i p out = ap (λ (v : Slot). v .lane) (took-slot x k size i p out)
+
+pub octets-stay : OctetsStay
+unfolding after taking takingPool
+octets-stay pool calls (opens i settings) at size other = refl
+octets-stay pool calls (closes i out) at size other = refl
+octets-stay pool calls (takes i p out) at size other =
+    let x : Intake = run (freshWith pool) calls in
+    let k = reached-sound pool calls in
+    step-stays (x .state) i p (x .pool) at (length (x .pool)) (length out) (stepped (x .state) k i p (length (x .pool)) (length out))
+    (λ j low. other j (rw (lane-after x k (run-size (freshWith pool) calls ∙ size) i p out) low))
+
+-- ---- a packet that needs a block, and has the room
+module _ (l : Lane) (p : List ℕ) (room o w : ℕ) (most : w ≤ l .settings .cap) (beside : max w (l .settings .share) + o ≤ 64) where
+  -- the step holds n octets, in w blocks
+  abbrev HoldsThen : Step → Type 0
+  HoldsThen d = (a : Added) × ((on : Bool) × ((n : ℕ) × ((d ≡ Hold a on n) × (blocksFor n ≡ w))))
+
+  fits-then : (a : Added) (on : Bool) (n : ℕ) → blocksFor n ≡ w → HoldsThen (settle o (holdPlan (l .settings) a on n))
+  unfolding holdPlan settle
+  fits-then a on n e =
+      (a, (on, (n, (simp (le-ltb (l .settings .cap) (blocksFor n) (omega (arith, most, e)), le-leb (max (blocksFor n) (l .settings .share) + o) 64 (rw e beside)), e))))
+
+  holds-then : l .opened ≡ true → fault (l .settings) p ≡ 0 → repeats l (count p) ≡ false → l .packets < 262144 → wouldHold l p ≡ w → 0 < w → HoldsThen (settle o (packetPlan l p room))
+  unfolding packetPlan acceptedPlan groupingPlan wouldHold
+  holds-then open′ sound new few e some =
+      let user : ℕ = userOctets (l .settings) p in
+      simp (open′, sound, new, lt-leb 262144 (l .packets) few)
+      (either (eqb (flags p) 1)
+      (λ f. let z = eqb-true (flags p) 1 f in simp z (fits-then _ false user (simp z at e)))
+      (λ f. either (eqb (flags p) 0 && goesOn l (flags p) (count p))
+      (λ h. let g = both (eqb (flags p) 0) (goesOn l (flags p) (count p)) h in
+      let z = eqb-true (flags p) 0 (g .0) in
+      let on : goesOn l 0 (count p) ≡ true = rw z at (g .1) in
+      simp (z, on) (fits-then _ true (l .octets + user) (simp (z, on) at e)))
+      (λ h. absurd (omega (arith, simp (f, h) at e, some)))))
+
+-- a free block is free among the marks in which the lane looks
+still-free : (i : ℕ) (marks : List ℕ) (b : ℕ) → b < length marks → getD marks b 0 ≡ free → getD (freed marks i) b 0 ≡ free
+unfolding freedMark
+still-free i [] b h e = absurd (omega arith)
+still-free i (o ∷ os) zero h e = rw e (either (eqb (free / 64) i) (λ f. simp f) (λ f. simp f))
+still-free i (o ∷ os) (suc b) h e = still-free i os b (omega arith) e
+
+looked-free : (s : State) → Sound s → (i : ℕ) (p : List ℕ) (b : ℕ) → b < 64 → markAt s b ≡ free → getD (marksFor s i p) b 0 ≡ free
+looked-free s k i p b h e = either (eqb (flags p) 1) (λ f. simp f (still-free i (s .marks) b (omega (arith, k .shape .1)) e)) (λ f. simp f e)
+
+run-append : (x : Intake) (calls more : List Call) → run x (calls ++ more) ≡ run (run x calls) more
+unfolding run
+run-append x [] more = refl
+run-append x (c ∷ calls) more = run-append (after x c) calls more
+
+pub used-again : UsedAgain
+unfolding run laneAfter
+used-again pool calls c b j p out size its is-free (open′, sound, few, fits) new (most, beside) due =
+    let y : Intake = after (run (freshWith pool) calls) c in
+    let s : State = y .state in
+    let k : Sound s = after-sound (run (freshWith pool) calls) (reached-sound pool calls) c in
+    let sized : length (y .pool) ≡ 16384 = after-size (run (freshWith pool) calls) c ∙ run-size (freshWith pool) calls ∙ size in
+    let w : ℕ = wouldHold (laneAt s j) p in
+    let h = holds-then (laneAt s j) p (length out) (others (s .lanes) j) w most beside open′ sound new few refl (omega (arith, due)) in
+    let step : stepFor y j p out ≡ Hold (h .0) (h .1 .0) (h .1 .1 .0) = settled y k sized j p out ∙ h .1 .1 .1 .0 in
+    let told : reply y (takes j p out) ≡ toPacket (Held (h .0 .missing) (h .0 .broke)) out = took-reply y j p out ∙ rw step in
+    let holds′ : held (laneAt (after y (takes j p out) .state) j) ≡ w = rw (lane-after y k sized j p out, step) (h .1 .1 .1 .1) in
+    let lowest = lowest-at y k j p out out (h .0 .missing) (h .0 .broke) b (its .0) told in
+    let seen : isFree (getD (marksFor s j p) b 0) ≡ true = eq-eqb (getD (marksFor s j p) b 0) free (looked-free s k j p b (its .0) is-free) in
+    let bears : markAt (after y (takes j p out) .state) b ≡ mark j (placeFor s j p b) = lowest ∙ rw holds′ (simp (seen, lt-ltb (placeFor s j p b) w due)) in
+    let few-places : placeFor s j p b < 64 = omega (arith, due, most, is-fine (laneAt s j) (lane-fine s k j) .legal open′ .cap) in
+    subst (λ (z : Intake). Belongs (z .state) b j) (sym (run-append (freshWith pool) calls (c ∷ takes j p out ∷ []))) (its .0, opened-small s k j open′, omega (arith, bears, few-places))

@@ -1,0 +1,148 @@
+-- What has nothing amiss isn't refused, in any state that a run reaches: its plan is followed test by test. A lane in its share has the room, since its share was
+-- promised.
+use Prim.Native.Nat.{ℕ, _+_, _≤_, _<_, max}
+use Prim.{Unit}
+use mathlib.Core.Path.{_≡_, refl, ap, ap₂, _∙_}
+use mathlib.Core.Bool.{Bool, true, false, not, _&&_, _||_}
+use mathlib.Core.List.{List}
+use native.Mathlib.Omega.{arith}
+use borrow.Author.Tests.{eqb-false, eq-eqb, le-leb, le-ltb, lt-leb}
+use lib.Dec.{eqb, leb}
+use lib.ListN.{length}
+use Rattle.octets.proofs.Order.{either, both}
+use Rattle.packet.specs.Space.{flags, count}
+use Rattle.record.specs.Record.{recordSize}
+use Rattle.pool.specs.Blocks.{blocksFor}
+use Rattle.lane.specs.declared.Lane.{Lane}
+use Rattle.lane.specs.declared.Added.{Added}
+use Rattle.lane.specs.declared.Step.{Step}
+use Rattle.lane.specs.declared.Step.the-variants.{Refuse, Repeat, Stray, Hold}
+use Rattle.lane.specs.declared.Step.the-variants as step
+use Rattle.lane.specs.Lane.{held, illegal, talliesPossible, fine}
+use Rattle.lane.specs.Packets.{fault, userOctets}
+use Rattle.lane.specs.Grouping.{repeats, goesOn, addedFrom}
+use Rattle.lane.specs.Plans.{holdPlan, unitPlan, groupingPlan, acceptedPlan, packetPlan}
+use Rattle.lane.proofs.Fine.{is-fine}
+use Rattle.intake.specs.declared.State.{State}
+use Rattle.intake.specs.State.{laneAt, total, others}
+use Rattle.intake.specs.Calls.{openingRefusal, closingRefusal, settle}
+use Rattle.intake.specs.After.{answerOf, opening, closing, taking, takingPool, takingOut}
+use Rattle.demands.specs.Runs as runs
+use Rattle.demands.specs.Runs.{Intake, freshWith, IsPool, Call, toOpening, toPacket, reply, run, reached, takes}
+use Rattle.demands.specs.Order.{wouldHold, wouldWrite}
+use Rattle.demands.specs.Past.{isRefused}
+use Rattle.demands.specs.Demand3.{NothingAmiss, HasRoom, RoomInShare, GetsRoom, RepeatsChangeNothing, Opens, Closes}
+use Rattle.demands.proofs.Sound.{not-unsound, lane-fine}
+use Rattle.demands.proofs.Order.{share-fits}
+use Rattle.demands.proofs.Calls.{reached-sound}
+use Rattle.demands.proofs.View.{stepFor, run-size, settled, took-reply}
+use Rattle.demands.proofs.Laws.{repeat-leaves}
+
+-- ---- a step that is no refusal
+abbrev Taken : Step → Type 0
+Taken (Refuse k) = ⊥
+Taken Repeat = Unit {0}
+Taken (Stray a) = Unit {0}
+Taken (Hold a on n) = Unit {0}
+Taken (step.Unit a on n) = Unit {0}
+
+taken-told : (d : Step) (out : List ℕ) → Taken d → isRefused (toPacket (answerOf d) out) ≡ false
+taken-told (Refuse k) out h = absurd h
+taken-told Repeat out h = refl
+taken-told (Stray a) out h = refl
+taken-told (Hold a on n) out h = refl
+taken-told (step.Unit a on n) out h = refl
+
+taken-reply : (x : Intake) (i : ℕ) (p out : List ℕ) → Taken (stepFor x i p out) → isRefused (reply x (takes i p out)) ≡ false
+unfolding reply taking
+taken-reply x i p out h = taken-told (stepFor x i p out) (takingOut (x .state) i p (x .pool) out) h
+
+module _ (l : Lane) (p : List ℕ) (room o : ℕ) where
+  to-hold : (a : Added) (on : Bool) (n : ℕ) → blocksFor n ≤ l .settings .cap → max (blocksFor n) (l .settings .share) + o ≤ 64 → Taken (settle o (holdPlan (l .settings) a on n))
+  unfolding holdPlan settle
+  to-hold a on n most beside = simp (le-ltb (l .settings .cap) (blocksFor n) most, le-leb (max (blocksFor n) (l .settings .share) + o) 64 beside) tt
+
+  to-end : (a : Added) (on : Bool) (n : ℕ) → n ≤ room → Taken (settle o (unitPlan room a on n))
+  unfolding unitPlan settle
+  to-end a on n fits = simp (le-ltb room n fits) tt
+
+  grouping : wouldHold l p ≤ l .settings .cap → max (wouldHold l p) (l .settings .share) + o ≤ 64 → wouldWrite l p ≤ room
+      → Taken (settle o (groupingPlan l (flags p) (count p) (userOctets (l .settings) p) room))
+  unfolding groupingPlan wouldHold wouldWrite settle
+  grouping most beside fits =
+      let f : ℕ = flags p in
+      let a : Added = addedFrom l f (count p) in
+      let user : ℕ = userOctets (l .settings) p in
+      either (eqb f 3) (λ e. simp e (to-end a false user (simp e at fits)))
+      (λ no3. simp no3 (either (eqb f 1) (λ e. simp e (to-hold a false user (simp e at most) (simp e at beside)))
+      (λ no1. simp no1 (either (goesOn l f (count p))
+      (λ on. simp on (either (eqb f 0) (λ e. simp e (to-hold a true (l .octets + user) (simp (no1, e, on) at most) (simp (no1, e, on) at beside)))
+      (λ no0.
+      let e : eqb f 2 ≡ true = eq-eqb f 2 (omega (arith, eqb-false f 3 no3, eqb-false f 1 no1, eqb-false f 0 no0)) in
+      simp no0 (to-end a true (l .octets + user) (simp (no3, e, on) at fits)))))
+      (λ on. simp on tt)))))
+
+  takes-it : l .opened ≡ true → fault (l .settings) p ≡ 0 → Taken (settle o (acceptedPlan l (flags p) (count p) (userOctets (l .settings) p) room)) → Taken (settle o (packetPlan l p room))
+  unfolding packetPlan
+  takes-it open′ sound h = simp (open′, sound) h
+
+  accepts : l .packets < 262144 → Taken (settle o (groupingPlan l (flags p) (count p) (userOctets (l .settings) p) room)) → Taken (settle o (acceptedPlan l (flags p) (count p) (userOctets (l .settings) p) room))
+  unfolding acceptedPlan settle
+  accepts few h = either (repeats l (count p)) (λ e. simp e tt) (λ e. simp (e, lt-leb 262144 (l .packets) few) h)
+
+-- ---- a packet
+module _ (pool : List ℕ) (calls : List Call) (i : ℕ) (packet out : List ℕ) (size : IsPool pool) where
+  abbrev x : Intake
+  x = run (freshWith pool) calls
+
+  abbrev l : Lane
+  l = laneAt (x .state) i
+
+  planned : stepFor x i packet out ≡ settle (others (x .state .lanes) i) (packetPlan l packet (length out))
+  planned = settled x (reached-sound pool calls) (run-size (freshWith pool) calls ∙ size) i packet out
+
+  gets : NothingAmiss l packet out → HasRoom (x .state) i packet → isRefused (reply x (takes i packet out)) ≡ false
+  gets (open′, sound, few, fits) (most, beside) =
+      let o : ℕ = others (x .state .lanes) i in
+      let h = takes-it l packet (length out) o open′ sound (accepts l packet (length out) o few (grouping l packet (length out) o most beside fits)) in
+      taken-reply x i packet out (rw planned h)
+
+pub gets-room : GetsRoom
+gets-room pool calls i packet out size fine′ room = gets pool calls i packet out size fine′ room
+
+pub room-in-share : RoomInShare
+room-in-share pool calls i packet out size fine′ few =
+    let s = reached pool calls in
+    let k = reached-sound pool calls in
+    gets pool calls i packet out size fine′
+    (omega (arith, few, is-fine (laneAt s i) (lane-fine s k i) .legal (fine′ .0) .share), omega (arith, few, share-fits s k i (fine′ .0)))
+
+pub repeats-change-nothing : RepeatsChangeNothing
+unfolding packetPlan acceptedPlan settle runs.after taking takingPool
+repeats-change-nothing pool calls i packet out size open′ sound same =
+    let x : Intake = run (freshWith pool) calls in
+    let again : stepFor x i packet out ≡ Repeat = planned pool calls i packet out size ∙ simp (open′, sound, same) in
+    let left = repeat-leaves (x .state) i packet (x .pool) out again in
+    (took-reply x i packet out ∙ rw again, ap₂ (λ (s : State) (p : List ℕ). record { state = s; pool = p }) (left .0) (left .1))
+
+-- ---- an opening and a closing
+pub opens : Opens
+unfolding reply opening openingRefusal
+opens pool calls i settings size small shut legal fits =
+    let x : Intake = run (freshWith pool) calls in
+    ap toOpening (rw (run-size (freshWith pool) calls ∙ size)
+    (simp (not-unsound (x .state) (reached-sound pool calls), le-ltb 7 i (omega arith), shut, legal, le-ltb 64 (settings .share + total (x .state .lanes)) fits)))
+
+tallies-possible : (l : Lane) → fine l ≡ true → talliesPossible l ≡ true
+unfolding fine
+tallies-possible l e =
+    both ((not (l .opened) || not (illegal (l .settings))) && leb (held l) (l .settings .cap) && (l .grouped || eqb (l .octets) 0) && (l .opened || not (l .grouped)) && leb (l .last) 16383)
+    (talliesPossible l) e .1
+
+pub closes : Closes
+unfolding reply closing closingRefusal
+closes pool calls i out size open′ fits =
+    let x : Intake = run (freshWith pool) calls in
+    let k = reached-sound pool calls in
+    rw (run-size (freshWith pool) calls ∙ size)
+    (simp (not-unsound (x .state) k, open′, le-ltb (length out) recordSize fits, tallies-possible (laneAt (x .state) i) (lane-fine (x .state) k i)))
