@@ -34,6 +34,7 @@ use taking::user_part;
 const MOST: usize = 64;
 
 // marks says of each block whose it is: 512 if it is free, else lane x 64 + place.
+#[repr(C)]
 pub struct State {
     pub lanes: [Lane; 8],
     pub marks: [u16; 64],
@@ -65,6 +66,7 @@ pub struct Answered {
 }
 
 // What an opening or a closing gives: the refusal, or 0.
+#[repr(C)]
 pub struct Changed {
     pub refusal: u8,
     pub state: State,

@@ -18,6 +18,7 @@ use record::Record;
 use record::is_possible;
 
 // What an opening gives. share and cap count blocks.
+#[repr(C)]
 pub struct Settings {
     pub station: u16,
     pub apid: u16,
@@ -27,6 +28,7 @@ pub struct Settings {
 }
 
 // last is the count of the last accepted packet; octets are those of the open group, and 0 where there is none.
+#[repr(C)]
 pub struct Lane {
     pub opened: bool,
     pub settings: Settings,

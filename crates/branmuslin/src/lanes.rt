@@ -1,0 +1,135 @@
+// The lanes as C calls them: the state goes in and comes back by value, and what a packet is answered is told in numbers.
+ghost use mathlib.Core.Path.{_≡_};
+ghost use lib.ListN.{length};
+ghost use Rattle.intake.specs.State.{freshState, sound};
+ghost use Rattle.intake.specs.After.{opening, closing, closingOut, taking, takingPool, takingOut};
+ghost use Rattle.branmuslin.specs.Lanes.{numbered};
+use intake::Answer;
+use intake::Answered;
+use intake::Changed;
+use intake::State;
+use lane::Settings;
+
+// What a packet is answered, in numbers. kind: 0 refused, 1 repeat, 2 stray, 3 held, 4 unit; broke: a group was given up.
+#[repr(C)]
+pub struct Numbered {
+    pub refusal: u8,
+    pub kind: u8,
+    pub broke: bool,
+    pub missing: u16,
+    pub octets: usize,
+    pub state: State,
+}
+
+// Eight closed lanes.
+#[no_mangle]
+pub extern "C" fn branmuslin_fresh_start() -> State
+    ensures { λ r. ⌜ r ≡ freshState ⌝ }
+{
+    intake::fresh_start()
+}
+
+// Whether the state is sound.
+#[no_mangle]
+pub extern "C" fn branmuslin_is_sound(state: State) -> bool
+    ensures { λ r. ⌜ r ≡ sound state ⌝ }
+{
+    intake::is_sound(state)
+}
+
+// Opens a lane.
+#[no_mangle]
+pub extern "C" fn branmuslin_open_lane(
+    state: State,
+    lane: usize,
+    settings: Settings,
+    pool: &[u8],
+) -> Changed
+    ensures { λ r. ⌜ r ≡ opening state lane settings (length (now (pool .entry))) ⌝ }
+{
+    intake::open_lane(state, lane, settings, pool)
+}
+
+// An answer in numbers.
+fn in_numbers(a: Answered) -> Numbered
+    ensures { λ r. ⌜ r ≡ numbered a ⌝ }
+{
+    let state = a.state;
+    let answer = a.answer;
+    match answer {
+        Answer::Refused(refusal) => Numbered {
+            refusal,
+            kind: 0,
+            broke: false,
+            missing: 0,
+            octets: 0,
+            state,
+        },
+        Answer::Repeat => Numbered {
+            refusal: 0,
+            kind: 1,
+            broke: false,
+            missing: 0,
+            octets: 0,
+            state,
+        },
+        Answer::Stray { missing, given_up } => Numbered {
+            refusal: 0,
+            kind: 2,
+            broke: given_up,
+            missing,
+            octets: 0,
+            state,
+        },
+        Answer::Held { missing, given_up } => Numbered {
+            refusal: 0,
+            kind: 3,
+            broke: given_up,
+            missing,
+            octets: 0,
+            state,
+        },
+        Answer::Unit {
+            octets,
+            missing,
+            given_up,
+        } => Numbered {
+            refusal: 0,
+            kind: 4,
+            broke: given_up,
+            missing,
+            octets,
+            state,
+        },
+    }
+}
+
+// Gives a packet to a lane.
+#[no_mangle]
+pub extern "C" fn branmuslin_take_packet(
+    state: State,
+    lane: usize,
+    packet: &[u8],
+    pool: &mut [u8],
+    out: &mut [u8],
+) -> Numbered
+    ensures { λ r. ⌜ r ≡ numbered (taking state lane (now (packet .entry)) (length (now (pool .entry))) (length (now (out .entry)))) ⌝ }
+    ensures { λ _. ⌜ now (pool .exit) ≡ takingPool state lane (now (packet .entry)) (length (now (out .entry))) (now (pool .entry)) ⌝ }
+    ensures { λ _. ⌜ now (out .exit) ≡ takingOut state lane (now (packet .entry)) (now (pool .entry)) (now (out .entry)) ⌝ }
+{
+    in_numbers(intake::take_packet(state, lane, packet, pool, out))
+}
+
+// Closes a lane and writes its credit record at the front of out.
+#[no_mangle]
+pub extern "C" fn branmuslin_close_lane(
+    state: State,
+    lane: usize,
+    pool: &[u8],
+    out: &mut [u8],
+) -> Changed
+    ensures { λ r. ⌜ r ≡ closing state lane (length (now (pool .entry))) (length (now (out .entry))) ⌝ }
+    ensures { λ _. ⌜ now (out .exit) ≡ closingOut state lane (length (now (pool .entry))) (now (out .entry)) ⌝ }
+{
+    intake::close_lane(state, lane, pool, out)
+}
