@@ -80,7 +80,7 @@ module _ (i : ℕ) (x y : Intake) (k : Alike i x y) where
         let l : Lane = laneAt (x .state) i in
         let theirs : stepFor y i p out ≡ settle 0 (packetPlan l p (length out)) = settled y (k .alone) (k .size-alone) i p out ∙ rw (k .no-other, same-lane) in
         let then : InShare (laneAfter l (settle 0 (packetPlan l p (length out)))) =
-          subst InShare (ap (λ (v : Slot). v .lane) (took-slot y (k .alone) (k .size-alone) i p out) ∙ ap₂ laneAfter (sym same-lane) theirs) w in
+        subst InShare (ap (λ (v : Slot). v .lane) (took-slot y (k .alone) (k .size-alone) i p out) ∙ ap₂ laneAfter (sym same-lane) theirs) w in
         settled x (k .shared) (k .size) i p out
         ∙ same-step l p (length out) (others (x .state .lanes) i) (planned l p (length out) (lane-fine (x .state) (k .shared) i)) (share-fits (x .state) (k .shared) i) then
         ∙ sym theirs
@@ -88,9 +88,10 @@ module _ (i : ℕ) (x y : Intake) (k : Alike i x y) where
     taken-together : InShare (laneAt (after y (takes i p out) .state) i) → Together (takes i p out)
     taken-together w =
         let d : stepFor x i p out ≡ stepFor y i p out = same-decision w in
-        let told : Slot → Step → Reply = λ v e. toPacket (answerOf e) (outFrom (v .group) (userData (v .lane .settings) p) e out) in
-        (took-reply x i p out ∙ ap₂ told (k .slot) d ∙ sym (took-reply y i p out),
-        took-slot x (k .shared) (k .size) i p out ∙ ap₂ (λ (v : Slot) (e : Step). slotAfter v p e) (k .slot) d ∙ sym (took-slot y (k .alone) (k .size-alone) i p out))
+        let told : Slot → Step → Reply = λ v e. toPacket (answerOf e) (outFrom (v .group) (userData (v .lane .settings) p) e out) in (
+          took-reply x i p out ∙ ap₂ told (k .slot) d ∙ sym (took-reply y i p out),
+          took-slot x (k .shared) (k .size) i p out ∙ ap₂ (λ (v : Slot) (e : Step). slotAfter v p e) (k .slot) d ∙ sym (took-slot y (k .alone) (k .size-alone) i p out),
+        )
 
   module _ (settings : Settings) where
     abbrev shares : ℕ
@@ -120,10 +121,11 @@ module _ (i : ℕ) (x y : Intake) (k : Alike i x y) where
     unfolding reply opening
     opened-together never =
         let same : openingRefusal (x .state) i settings (length (x .pool)) ≡ openingRefusal (y .state) i settings (length (y .pool)) =
-          rw (k .size, k .size-alone) (same-opening (λ e. never (ap toOpening (rw (k .size) e)))) in
-        (ap toOpening same,
-        opened-slot x (k .shared) (k .size) i settings ∙ ap₂ (λ (n : ℕ) (v : Slot). unlessRefused n (without (openedWith settings)) v) same (k .slot)
-        ∙ sym (opened-slot y (k .alone) (k .size-alone) i settings))
+        rw (k .size, k .size-alone) (same-opening (λ e. never (ap toOpening (rw (k .size) e)))) in (
+          ap toOpening same,
+          opened-slot x (k .shared) (k .size) i settings ∙ ap₂ (λ (n : ℕ) (v : Slot). unlessRefused n (without (openedWith settings)) v) same (k .slot)
+              ∙ sym (opened-slot y (k .alone) (k .size-alone) i settings),
+        )
 
   module _ (out : List ℕ) where
     same-closing : closingRefusal (x .state) i (length (x .pool)) (length out) ≡ closingRefusal (y .state) i (length (y .pool)) (length out)
@@ -132,10 +134,11 @@ module _ (i : ℕ) (x y : Intake) (k : Alike i x y) where
 
     closed-together : Together (closes i out)
     unfolding reply closing closingOut
-    closed-together =
-        (ap₂ (λ (n : ℕ) (l : Lane). runs.toClosing n (outputAfter n (octetsOf (creditOf l)) out)) same-closing same-lane,
-        closed-slot x (k .shared) (k .size) i out ∙ ap₂ (λ (n : ℕ) (v : Slot). unlessRefused n (without closed) v) same-closing (k .slot)
-        ∙ sym (closed-slot y (k .alone) (k .size-alone) i out))
+    closed-together = (
+      ap₂ (λ (n : ℕ) (l : Lane). runs.toClosing n (outputAfter n (octetsOf (creditOf l)) out)) same-closing same-lane,
+      closed-slot x (k .shared) (k .size) i out ∙ ap₂ (λ (n : ℕ) (v : Slot). unlessRefused n (without closed) v) same-closing (k .slot)
+          ∙ sym (closed-slot y (k .alone) (k .size-alone) i out),
+    )
 
 -- a call of the source itself, in its share, and with its share promised
 together : (x y : Intake) (c : Call) (k : Alike (laneOf c) x y) → InShare (laneAt (after y c .state) (laneOf c)) → (reply x c ≡ toOpening 23 → ⊥) → Together (laneOf c) x y k c
@@ -157,14 +160,17 @@ still-no-other y (closes i out) = unless (λ (t : State). others (t .lanes) i �
 module _ (i : ℕ) where
   own-call : (x y : Intake) (c : Call) → laneOf c ≡ i → Alike i x y → InShare (laneAt (after y c .state) i) → (reply x c ≡ toOpening 23 → ⊥) → (reply x c ≡ reply y c) × Alike i (after x c) (after y c)
   own-call x y c e = subst (λ (j : ℕ). Alike j x y → InShare (laneAt (after y c .state) j) → (reply x c ≡ toOpening 23 → ⊥) → (reply x c ≡ reply y c) × Alike j (after x c) (after y c)) e
-      (λ k w never. let both = together x y c k w never in (both .0, record {
-        shared = after-sound x (k .shared) c;
-        alone = after-sound y (k .alone) c;
-        size = after-size x c ∙ k .size;
-        size-alone = after-size y c ∙ k .size-alone;
-        slot = both .1;
-        no-other = still-no-other y c ∙ k .no-other;
-      }))
+      (λ k w never. let both = together x y c k w never in (
+        both .0,
+        record {
+          shared = after-sound x (k .shared) c;
+          alone = after-sound y (k .alone) c;
+          size = after-size x c ∙ k .size;
+          size-alone = after-size y c ∙ k .size-alone;
+          slot = both .1;
+          no-other = still-no-other y c ∙ k .no-other;
+        },
+      ))
 
   other-call : (x y : Intake) (c : Call) → (laneOf c ≡ i → ⊥) → Alike i x y → Alike i (after x c) y
   other-call x y c other k = record {
@@ -213,7 +219,10 @@ unfolding freshState
 as-alone i calls pool alone size size-alone w never =
     along i calls (freshWith pool) (freshWith alone)
     (record {
-      shared = fresh; alone = fresh; size = size; size-alone = size-alone;
+      shared = fresh;
+      alone = fresh;
+      size = size;
+      size-alone = size-alone;
       slot = fresh-slot pool i ∙ sym (fresh-slot alone i);
       no-other = no-need 8 i;
     })

@@ -118,7 +118,7 @@ credit-needs-units n pool calls i out credited size e told =
     let h : At i x past (unitsTold i (freshWith pool) calls) = reached-at i pool size calls in
     let t : Tallies (laneFrom past) = subst (λ (v : Slot). Tallies (v .lane)) (h .slot) (is-fine (laneAt (x .state) i) (lane-fine (x .state) (h .sound) i) .tallies) in
     let r : ruled past (closes i out) ≡ some (toClosing 0 credited) =
-      ⊎-elim (λ z. absurd (true≢false (sym z ∙ ap isRefused e))) (λ z. z ∙ ap some e) (replies-are-the-rules pool calls (closes i out) size) in
+    ⊎-elim (λ z. absurd (true≢false (sym z ∙ ap isRefused e))) (λ z. z ∙ ap some e) (replies-are-the-rules pool calls (closes i out) size) in
     let u = credited-units past i out credited t r in
     (sym (u .0) ∙ told, omega (arith, u .0, u .1, told), h .told ∙ sym (u .0) ∙ told)
 

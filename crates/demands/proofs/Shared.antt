@@ -76,17 +76,19 @@ no-block-in-two pool calls i j q r size hq hr =
     let s : State = reached pool calls in
     let k : Sound s = reached-sound pool calls in
     let here = octet-bears s k i q hq in
-    let there = octet-bears s k j r hr in
-    ((here .0, has-octets s k i q hq, omega (arith, here .1, here .2)),
-    λ e. let same : markAt s (blockOf s i q) ≡ markAt s (blockOf s j r) = ap (markAt s) e in (omega (arith, same, here .1, here .2, there .1, there .2), omega (arith, same, here .1, here .2, there .1, there .2)))
+    let there = octet-bears s k j r hr in (
+      (here .0, has-octets s k i q hq, omega (arith, here .1, here .2)),
+      λ e. let same : markAt s (blockOf s i q) ≡ markAt s (blockOf s j r) = ap (markAt s) e in (omega (arith, same, here .1, here .2, there .1, there .2), omega (arith, same, here .1, here .2, there .1, there .2)),
+    )
 
 -- ---- no sequence of calls loses a block
 pub none-lost : NoneLost
 none-lost pool calls size =
     let s : State = reached pool calls in
-    let k : Sound s = reached-sound pool calls in
-    (λ b h. ⊎-elim inl (λ (p : HeldPlace s (markAt s b)). inr (p .lane, (h, p .small, omega (arith, p .bears, p .holds, held-most (laneAt s (p .lane)) (lane-fine s k (p .lane)) .0)))) (free-or-held s k b h),
-    matched (s .marks) (map held (s .lanes)) (k .shape .1) (length-map (s .lanes) held ∙ k .shape .0) (k .marks) .whole)
+    let k : Sound s = reached-sound pool calls in (
+      λ b h. ⊎-elim inl (λ (p : HeldPlace s (markAt s b)). inr (p .lane, (h, p .small, omega (arith, p .bears, p .holds, held-most (laneAt s (p .lane)) (lane-fine s k (p .lane)) .0)))) (free-or-held s k b h),
+      matched (s .marks) (map held (s .lanes)) (k .shape .1) (length-map (s .lanes) held ∙ k .shape .0) (k .marks) .whole,
+    )
 
 -- ---- a call moves blocks only between the free ones and its lane's
 pub only-its-own : OnlyItsOwn
