@@ -1,5 +1,5 @@
-# The promises: every public function has one and asks nothing of its caller, docs/PROMISES.md lists it with wrong answers, and the edit for each
-# of these was refused because that very function could no longer be proved.
+# The promises: every public function has one and asks nothing of its caller, demand 1 is stated of it, docs/PROMISES.md lists it with wrong answers, and
+# the edit for each of these was refused because that very function could no longer be proved.
 
 sources() { find crates -path '*/src/*' -name '*.rt'; }
 
@@ -19,6 +19,11 @@ public_clauses() {
 no_public_requires() { ! public_clauses requires | grep .; }
 
 every_public_ensures() { public_clauses ensures | diff - <(public_functions | sort -u); }
+
+# Demand 1 is stated over a list of all public functions, each of which is brought in by its own name.
+every_function_is_in_demand_1() {
+    diff <(public_functions | sort -u) <(sed -nE 's/^use Rattle·([a-z]+)\.proofs\.([a-z0-9_.]+) as .*/\1::\2/p' crates/demands/specs/Functions.antt | sed 's/::.*\./::/' | sort -u)
+}
 
 # listed_answers: 'crate::function edit' for each wrong answer that docs/PROMISES.md lists.
 listed_answers() {
@@ -43,6 +48,7 @@ stands_at_a_fact() {
 
 check 'no public function has a requires' no_public_requires
 check 'every public function has an ensures' every_public_ensures
+check 'every public function is in demand 1' every_function_is_in_demand_1
 check 'docs/PROMISES.md has two wrong answers for every public function' every_function_has_two_wrong_answers
 check 'docs/PROMISES.md and the must-fail edits are the same' every_edit_is_listed
 while read -r function edit; do

@@ -1,7 +1,6 @@
 // The C library: the functions that include/branmuslin.h declares, thin over the proved ones. Each returns the number of the refusal, or 0,
 // and where it refuses leaves everything that was lent to it as it was (but for the index that belongs to refusal 25 of a record file). A slice
 // is a pointer and a length in C; kind, field and out are type, data and output in the header.
-pub mod lanes;
 mod numbers;
 
 ghost use mathlib.Core.Path.{_≡_};

@@ -28,7 +28,7 @@ use Rattle.intake.specs.Calls.{openingRefusal, closingRefusal, settle, packetSt
 use Rattle.intake.specs.After.{opening, closing, closingOut, releasedFrom, grown, marksAfter, poolAfter, groupOf, outAfter, userOf, taking, takingPool, takingOut}
 use Rattle.demands.specs.Runs.{IsPool, Intake, freshWith, Call, opens, takes, closes, Reply, toOpening, toPacket, toClosing, reply, after, run, replies, own, repliesTo}
 use Rattle.demands.specs.Demand3.{StaysInShare, NoneUnpromised}
-use Rattle.demands.specs.Examples.{zeros, ones, interleaved, toldLane0, toldLane1, crowded, toldCrowded, toldUncrowded, unpromised, all64, toldAll64, freeBlocks, freeAround, freeAll64, Told, Examples}
+use Rattle.demands.specs.Examples.{zeros, ones, interleaved, toldLane0, toldLane1, crowded, toldCrowded, toldUncrowded, unpromised, all64, toldAll64, freeBlocks, freeAround, freeAll64, shares20, toldShares20, Told, Examples}
 use Rattle.demands.proofs.View.{after-size}
 
 -- ---- a list without the refusal 23, by looking
@@ -148,6 +148,10 @@ all64-on : (x : Intake) → (repliesOn freshState x all64 ≡ toldAll64) × (fre
 unfolding calling stateAfter replyOn repliesOn freeOn
 all64-on x = (refl, refl)
 
+shares20-on : (x : Intake) → repliesOn freshState x shares20 ≡ toldShares20
+unfolding calling stateAfter replyOn repliesOn
+shares20-on x = refl
+
 -- ---- all of it
 -- a pool that is filled with one octet
 pub filled : (octet : ℕ) → IsPool (replicate poolOctets octet)
@@ -179,4 +183,5 @@ examples = record {
       let z : _≡_ {A = ℕ} 23 0 = cc in omega arith;
   all64-told = λ pool empty. same-replies (freshWith pool) empty all64 ∙ all64-on (freshWith pool) .0;
   all64-free = λ pool empty. same-free (freshWith pool) empty all64 ∙ all64-on (freshWith pool) .1;
+  shares20-told = λ pool empty. same-replies (freshWith pool) empty shares20 ∙ shares20-on (freshWith pool);
 }

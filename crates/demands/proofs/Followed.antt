@@ -23,7 +23,7 @@ use Rattle.intake.specs.After.{openedWith, creditOf, opening, closing, closingO
 use Rattle.intake.specs.declared.Answer.the-variants.{Refused, Repeat, Stray, Held, Unit}
 use Rattle.demands.specs.Runs.{Intake, freshWith, Call, opens, takes, closes, Reply, toOpening, toPacket, toClosing, reply, after, run, laneOf, names}
 use Rattle.demands.specs.Rule.{Accepted, present, repeats, missing, group, unit, givesUp, answerWith, answerTo, endings, units, missingInAll, broken, lastCount}
-use Rattle.demands.specs.Past.{Past, shut, since, packetsOf, acceptedOf, isRefused, isAccepted, later, pastFrom, pastOf, isUnit, tally, unitsToldFrom, unitsTold}
+use Rattle.demands.specs.Past.{Past, shut, since, packetsOf, acceptedOf, isRefused, isAccepted, later, pastFrom, pastOf, isUnit, unitsToldAfter, unitsToldFrom, unitsTold}
 use Rattle.demands.specs.Demand2.{laneFrom, written}
 use Rattle.demands.proofs.Sound.{Sound, fresh, lane-fine}
 use Rattle.demands.proofs.Calls.{opened-at, closed-at, after-sound}
@@ -87,13 +87,13 @@ word-tells (some octets) g m gave out = (refl, refl)
 word-tells none (some octets) m gave out = (refl, refl)
 word-tells none none m gave out = (refl, refl)
 
-tally-follows : (past : Past) (c : Call) (r : Reply) → Right past c r → tally (units (packetsOf past)) c r ≡ units (packetsOf (later past c r))
+units-told-follow : (past : Past) (c : Call) (r : Reply) → Right past c r → unitsToldAfter (units (packetsOf past)) c r ≡ units (packetsOf (later past c r))
 unfolding endings one answerTo
-tally-follows past (opens i settings) r h = either (isRefused r) (λ e. simp e) (λ e. simp e)
-tally-follows past (closes i out) r h = either (isRefused r) (λ e. simp e) (λ e. simp e)
-tally-follows past (takes i p out) r (inl e) = let t = refused-tells r e in simp (t .0, t .1) (omega arith)
-tally-follows shut (takes i p out) r (inr e) = absurd (let z : _≡_ {A = ℕ} 0 1 = cc in omega arith)
-tally-follows (since s ps) (takes i p out) r (inr e) =
+units-told-follow past (opens i settings) r h = either (isRefused r) (λ e. simp e) (λ e. simp e)
+units-told-follow past (closes i out) r h = either (isRefused r) (λ e. simp e) (λ e. simp e)
+units-told-follow past (takes i p out) r (inl e) = let t = refused-tells r e in simp (t .0, t .1) (omega arith)
+units-told-follow shut (takes i p out) r (inr e) = absurd (let z : _≡_ {A = ℕ} 0 1 = cc in omega arith)
+units-told-follow (since s ps) (takes i p out) r (inr e) =
     let q : Accepted = acceptedOf s p in
     either (repeats ps q)
     (λ f. let z : toPacket Repeat out ≡ r = (let y = simp f at e in cc) in rw (← z) (omega arith))
@@ -116,14 +116,14 @@ module _ (i : ℕ) where
   fresh-at pool size = record { sound = fresh; size = size; slot = fresh-slot pool i; told = refl }
 
   module _ (x : Intake) (past : Past) (n : ℕ) (h : At i x past n) (c : Call) where
-    of-own : laneOf c ≡ i → At i (after x c) (later past c (reply x c)) (tally n c (reply x c))
+    of-own : laneOf c ≡ i → At i (after x c) (later past c (reply x c)) (unitsToldAfter n c (reply x c))
     of-own e =
         let f : Follows past c (slotIn (after x c) (laneOf c)) (reply x c) = call-follows x (h .sound) (h .size) past c (rw e (h .slot)) in
         record {
           sound = after-sound x (h .sound) c;
           size = after-size x c ∙ h .size;
           slot = subst (λ (j : ℕ). slotIn (after x c) j ≡ slotFrom (later past c (reply x c))) e (f .0);
-          told = rw (h .told) (tally-follows past c (reply x c) (f .1));
+          told = rw (h .told) (units-told-follow past c (reply x c) (f .1));
         }
 
     of-another : (laneOf c ≡ i → ⊥) → At i (after x c) past n
@@ -134,7 +134,7 @@ module _ (i : ℕ) where
       told = h .told;
     }
 
-    after-at : At i (after x c) (cond (names i c) (later past c (reply x c)) past) (cond (names i c) (tally n c (reply x c)) n)
+    after-at : At i (after x c) (cond (names i c) (later past c (reply x c)) past) (cond (names i c) (unitsToldAfter n c (reply x c)) n)
     after-at = either (names i c) (λ e. simp e (of-own (eqb-true _ _ e))) (λ e. simp e (of-another (eqb-false _ _ e)))
 
   run-at : (x : Intake) (past : Past) (n : ℕ) → At i x past n → (calls : List Call) → At i (run x calls) (pastFrom i past x calls) (unitsToldFrom i n x calls)

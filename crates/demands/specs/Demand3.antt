@@ -70,7 +70,7 @@ GetsRoom =
     (pool : List ℕ) (calls : List Call) (i : ℕ) (packet out : List ℕ) → IsPool pool → NothingAmiss (laneAt (reached pool calls) i) packet out
     → HasRoom (reached pool calls) i packet → isRefused (replied pool calls (takes i packet out)) ≡ false
 
--- a packet with the count of the last one is answered Repeat, at a full tally too, and nothing changes
+-- a packet with the count of the last one is answered Repeat, at a full unitsToldAfter too, and nothing changes
 abbrev pub RepeatsChangeNothing : Type 0
 RepeatsChangeNothing =
     (pool : List ℕ) (calls : List Call) (i : ℕ) (packet out : List ℕ) → IsPool pool

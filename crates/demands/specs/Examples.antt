@@ -184,6 +184,27 @@ freeAround x (c ∷ calls) = freeBlocks (x .state) ∷ freeAround (after x c) ca
 abbrev pub freeAll64 : List ℕ
 freeAll64 = 64 ∷ 64 ∷ 64 ∷ 0 ∷ 0 ∷ 64 ∷ 0 ∷ 64 ∷ []
 
+-- ---- the paper's case: lane 0 has share 20 and cap 40, lane 1 share 20 and cap 64. Lane 1 may hold 44 blocks, not 45; meanwhile lane 0 may hold 20, not 21
+abbrev pub shares20 : List Call
+shares20 =
+    opens 0 (settings 20 40)
+    ∷ opens 1 (settings 20 64)
+    ∷ takes 1 (beginning 0 (replicate 11265 1)) []
+    ∷ takes 1 (beginning 0 (replicate 11264 1)) []
+    ∷ takes 0 (beginning 0 (replicate 5121 1)) []
+    ∷ takes 0 (beginning 0 (replicate 5120 1)) []
+    ∷ []
+
+abbrev pub toldShares20 : List Reply
+toldShares20 =
+    toOpening 0
+    ∷ toOpening 0
+    ∷ toPacket (Refused 19) []
+    ∷ toPacket (Held 0 false) []
+    ∷ toPacket (Refused 19) []
+    ∷ toPacket (Held 0 false) []
+    ∷ []
+
 -- ---- all that is computed
 pub record Examples : Type 0 where
   pub empty-zeros : IsPool zeros
@@ -203,3 +224,4 @@ pub record Examples : Type 0 where
   -- whatever lies in the pool
   pub all64-told : (pool : List ℕ) → IsPool pool → replies (freshWith pool) all64 ≡ toldAll64
   pub all64-free : (pool : List ℕ) → IsPool pool → freeAround (freshWith pool) all64 ≡ freeAll64
+  pub shares20-told : (pool : List ℕ) → IsPool pool → replies (freshWith pool) shares20 ≡ toldShares20

@@ -1,3 +1,9 @@
+pub mod Entry
+pub mod Entries
+pub mod Exported
+pub mod Contract
+pub mod Functions
+pub mod Demand1
 pub mod Runs
 pub mod Groups
 pub mod Order

@@ -44,7 +44,7 @@ isAccepted (toPacket (Unit octets missing gave) out) = true
 isAccepted (toClosing refusal out) = false
 
 abbrev pub withPacket : Past → List ℕ → Past
-withPacket shut packet = shut
+withPacket shut packet = shut  -- never, since a closed lane refuses (RepliesAreTheRules)
 withPacket (since settings packets) packet = since settings (acceptedOf settings packet ∷ packets)
 
 -- the past after one more call of that lane, and its reply
@@ -71,14 +71,14 @@ isUnit (toPacket (Held missing gave) out) = false
 isUnit (toPacket (Unit octets missing gave) out) = true
 isUnit (toClosing refusal out) = false
 
-abbrev pub tally : ℕ → Call → Reply → ℕ
-tally n (opens i settings) r = cond (isRefused r) n 0
-tally n (takes i packet out) r = n + one (isUnit r)
-tally n (closes i out) r = cond (isRefused r) n 0
+abbrev pub unitsToldAfter : ℕ → Call → Reply → ℕ
+unitsToldAfter n (opens i settings) r = cond (isRefused r) n 0
+unitsToldAfter n (takes i packet out) r = n + one (isUnit r)
+unitsToldAfter n (closes i out) r = cond (isRefused r) n 0
 
 unfoldable pub unitsToldFrom : ℕ → ℕ → Intake → List Call → ℕ
 unitsToldFrom i n x [] = n
-unitsToldFrom i n x (c ∷ calls) = unitsToldFrom i (cond (names i c) (tally n c (reply x c)) n) (after x c) calls
+unitsToldFrom i n x (c ∷ calls) = unitsToldFrom i (cond (names i c) (unitsToldAfter n c (reply x c)) n) (after x c) calls
 
 abbrev pub unitsTold : ℕ → Intake → List Call → ℕ
 unitsTold i x calls = unitsToldFrom i 0 x calls

@@ -45,6 +45,7 @@ missing (last ∷ before) p = (p .count + 16384 - last .count - 1) % 16384
 unfoldable pub breaks : List Accepted → Accepted → Bool
 breaks before p = ltb 0 (missing before p) || eqb (p .flags) 1 || eqb (p .flags) 3
 
+-- the open group after the packets: its user data so far; none if none is open.
 -- 2. Flags 1: it opens a group with its user data. Flags 0: added to the group that is left
 unfoldable pub group : List Accepted → Option (List ℕ)
 group [] = none
@@ -54,7 +55,7 @@ group (p ∷ before) =
     ∷ (eqb (p .flags) 0 gives joined (cond (breaks before p) none (group before)) (p .user))
     ∷ [])
 
--- Flags 3: the user data is a unit. Flags 2: the group that is left and user data together are a unit
+-- the unit that the packet makes; none if it makes none. Flags 3: the user data is a unit. Flags 2: the group that is left and user data together are one
 unfoldable pub unit : List Accepted → Accepted → Option (List ℕ)
 unit before p =
     first none
@@ -62,19 +63,20 @@ unit before p =
     ∷ (eqb (p .flags) 2 gives joined (cond (breaks before p) none (group before)) (p .user))
     ∷ [])
 
+-- whether the packet finds an open group and gives it up (broken + 1)
 unfoldable pub givesUp : List Accepted → Accepted → Bool
 givesUp before p = present (group before) && breaks before p
 
 -- The answer is Stray, Held or Unit with its length, and tells missing and whether a group was given up
 abbrev pub answerWith : Option (List ℕ) → Option (List ℕ) → ℕ → Bool → Answer
-answerWith (some octets) open′ m gave = Unit (length octets) m gave
+answerWith (some octets) held m gave = Unit (length octets) m gave
 answerWith none (some octets) m gave = Held m gave
 answerWith none none m gave = Stray m gave
 
 unfoldable pub answerTo : List Accepted → Accepted → Answer
 answerTo before p = answerWith (unit before p) (group (p ∷ before)) (missing before p) (givesUp before p)
 
--- ---- 3. the tallies after all the packets: the packet tally is their number
+-- ---- 3. the tallies after all the packets: the packet unitsToldAfter is their number
 -- the packets that each end a unit, and how many these are
 unfoldable pub endings : List Accepted → List Accepted
 endings [] = []
@@ -99,4 +101,11 @@ lastCount (p ∷ before) = p .count
 -- Closing gives up an open group (broken + 1) and writes the credit record
 abbrev pub credit : Settings → List Accepted → Record
 credit s packets =
-    record { station = s .station; apid = s .apid; units = units packets; packets = length packets; missing = missingInAll packets; broken = broken packets + one (present (group packets)) }
+    record {
+      station = s .station;
+      apid = s .apid;
+      units = units packets;
+      packets = length packets;
+      missing = missingInAll packets;
+      broken = broken packets + one (present (group packets));
+    }

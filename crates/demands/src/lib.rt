@@ -1,2 +1,2 @@
-// No code: the starred examples and what the paper asks of all calls, stated over the definitions of the other crates and proved; what it asks of
-// whole runs has its place here.
+// No code: the three demands, stated over the definitions and the contracts of the other crates, and proved (docs/DEMANDS.md is the guide); the starred
+// examples; and laws of single calls on which the demands rest.

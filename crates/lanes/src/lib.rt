@@ -1,9 +1,10 @@
-// The lanes as C calls them: the state goes in and comes back by value, and what a packet is answered is told in numbers.
+// The lanes of the C library, thin over the proved ones, which include/branmuslin.h declares: the state goes in and comes back by value, and what a packet is
+// answered is told in numbers. They are a crate of their own, so that a program that only reads and writes links nothing of them.
 ghost use mathlib.Core.Path.{_≡_};
 ghost use lib.ListN.{length};
 ghost use Rattle.intake.specs.State.{freshState, sound};
 ghost use Rattle.intake.specs.After.{opening, closing, closingOut, taking, takingPool, takingOut};
-ghost use Rattle.branmuslin.specs.Lanes.{numbered};
+ghost use Rattle.lanes.specs.Numbers.{numbered};
 use intake::Answer;
 use intake::Answered;
 use intake::Changed;

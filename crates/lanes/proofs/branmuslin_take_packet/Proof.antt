@@ -1,9 +1,9 @@
 -- The promise of the call that it makes, in numbers.
 use mathlib.Core.Path.{ap, _∙_}
 use borrow.Author.Needs.{needs}
-use Rattle.branmuslin.specs.Lanes.{numbered}
-use Rattle.branmuslin.proofs.lanes.branmuslin_take_packet.Statement.{statement}
-use Rattle.branmuslin.proofs.lanes.branmuslin_take_packet.Tie as tie
+use Rattle.lanes.specs.Numbers.{numbered}
+use Rattle.lanes.proofs.branmuslin_take_packet.Statement.{statement}
+use Rattle.lanes.proofs.branmuslin_take_packet.Tie as tie
 
 returns : tie.Need-returns
 returns c =

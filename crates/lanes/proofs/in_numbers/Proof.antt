@@ -2,9 +2,9 @@
 use mathlib.Core.Path.{sym, ap}
 use borrow.Author.Needs.{needs}
 use Rattle.intake.specs.declared.Answer.{Answer}
-use Rattle.branmuslin.specs.Lanes.{numbers, numbered}
-use Rattle.branmuslin.proofs.lanes.in_numbers.Statement.{statement}
-use Rattle.branmuslin.proofs.lanes.in_numbers.Tie as tie
+use Rattle.lanes.specs.Numbers.{numbers, numbered}
+use Rattle.lanes.proofs.in_numbers.Statement.{statement}
+use Rattle.lanes.proofs.in_numbers.Tie as tie
 
 returns : tie.Need-returns
 unfolding numbered

@@ -4,7 +4,7 @@ use Rattle.intake.specs.declared.State.{State}
 use Rattle.intake.specs.declared.Answer.{Answer}
 use Rattle.intake.specs.declared.Answer.the-variants.{Refused, Repeat, Stray, Held, Unit}
 use Rattle.intake.specs.declared.Answered.{Answered}
-use Rattle.branmuslin.specs.declared.lanes.Numbered.{Numbered}
+use Rattle.lanes.specs.declared.Numbered.{Numbered}
 
 abbrev pub numbers : Answer → State → Numbered
 numbers (Refused k) s = record { refusal = k; kind = 0; broke = false; missing = 0; octets = 0; state = s }

@@ -1,0 +1,111 @@
+-- Every public function's code meets its contract: the crates' own theorems, under one statement.
+use Rattle.packet.proofs.read_packet.Met as readPacket
+use Rattle.walk.proofs.packet_at.Met as packetAt
+use Rattle.writing.proofs.write_space.Met as writeSpace
+use Rattle.writing.proofs.write_encapsulation.Met as writeEncapsulation
+use Rattle.record.proofs.read_record.Met as readRecord
+use Rattle.record.proofs.read_record_file.Met as readRecordFile
+use Rattle.record.proofs.write_record.Met as writeRecord
+use Rattle.intake.proofs.open_lane.Met as openLane
+use Rattle.intake.proofs.take_packet.Met as takePacket
+use Rattle.intake.proofs.close_lane.Met as closeLane
+use Rattle.branmuslin.proofs.branmuslin_read_packet.Met as branmuslinReadPacket
+use Rattle.branmuslin.proofs.branmuslin_write_space.Met as branmuslinWriteSpace
+use Rattle.branmuslin.proofs.branmuslin_write_encapsulation.Met as branmuslinWriteEncapsulation
+use Rattle.branmuslin.proofs.branmuslin_read_record.Met as branmuslinReadRecord
+use Rattle.branmuslin.proofs.branmuslin_read_record_file.Met as branmuslinReadRecordFile
+use Rattle.branmuslin.proofs.branmuslin_write_record.Met as branmuslinWriteRecord
+use Rattle.octets.proofs.octet_at.Met as octetAt
+use Rattle.octets.proofs.be16_at.Met as be16At
+use Rattle.octets.proofs.be32_at.Met as be32At
+use Rattle.octets.proofs.put_octets.Met as putOctets
+use Rattle.octets.proofs.put_octet.Met as putOctet
+use Rattle.octets.proofs.put_be16.Met as putBe16
+use Rattle.octets.proofs.put_be32.Met as putBe32
+use Rattle.packet.proofs.number_of.Met as numberOf
+use Rattle.packet.proofs.header_of.Met as headerOf
+use Rattle.packet.proofs.size_of.Met as sizeOf
+use Rattle.packet.proofs.data_of.Met as dataOf
+use Rattle.walk.proofs.walk.Met as walkAll
+use Rattle.record.proofs.is_possible.Met as isPossible
+use Rattle.pool.proofs.blocks_for.Met as blocksFor
+use Rattle.pool.proofs.grant_blocks.Met as grantBlocks
+use Rattle.pool.proofs.free_blocks.Met as freeBlocks
+use Rattle.pool.proofs.store_octets.Met as storeOctets
+use Rattle.pool.proofs.gather_octets.Met as gatherOctets
+use Rattle.pool.proofs.marks_match.Met as marksMatch
+use Rattle.lane.proofs.need_of.Met as needOf
+use Rattle.lane.proofs.is_illegal.Met as isIllegal
+use Rattle.lane.proofs.is_fine.Met as isFine
+use Rattle.lane.proofs.plan_packet.Met as planPacket
+use Rattle.intake.proofs.fresh_start.Met as freshStart
+use Rattle.intake.proofs.is_sound.Met as isSound
+use Rattle.text.proofs.put.Met as putText
+use Rattle.text.proofs.put_decimal.Met as putDecimal
+use Rattle.text.proofs.put_numbers.Met as putNumbers
+use Rattle.listing.proofs.list.Met as listAll
+use Rattle.listing.proofs.list_recording.Met as listRecording
+use Rattle.listing.proofs.octets_of.Met as octetsOf
+use Rattle.listing.proofs.written.Met as writtenPart
+use Rattle.replaying.proofs.begin.Met as beginRun
+use Rattle.replaying.proofs.replay_some.Met as replaySome
+use Rattle.demands.specs.Contract.{Keeps}
+use Rattle.demands.specs.Exported as name
+use Rattle.demands.specs.Exported.{Name}
+use Rattle.demands.specs.Functions as public
+use Rattle.demands.specs.Functions.{Public, the-entry, function}
+
+of-entry : (n : Name) → Keeps (function (the-entry n))
+of-entry name.read-packet M = readPacket.met
+of-entry name.packet-at M = packetAt.met
+of-entry name.write-space M = writeSpace.met
+of-entry name.write-encapsulation M = writeEncapsulation.met
+of-entry name.read-record M = readRecord.met
+of-entry name.read-record-file M = readRecordFile.met
+of-entry name.write-record M = writeRecord.met
+of-entry name.open-lane M = openLane.met
+of-entry name.take-packet M = takePacket.met
+of-entry name.close-lane M = closeLane.met
+of-entry name.branmuslin-read-packet M = branmuslinReadPacket.met
+of-entry name.branmuslin-write-space M = branmuslinWriteSpace.met
+of-entry name.branmuslin-write-encapsulation M = branmuslinWriteEncapsulation.met
+of-entry name.branmuslin-read-record M = branmuslinReadRecord.met
+of-entry name.branmuslin-read-record-file M = branmuslinReadRecordFile.met
+of-entry name.branmuslin-write-record M = branmuslinWriteRecord.met
+
+pub keeps : (p : Public) → Keeps (function p)
+keeps (the-entry n) M = of-entry n M
+keeps public.octet-at M = octetAt.met
+keeps public.be16-at M = be16At.met
+keeps public.be32-at M = be32At.met
+keeps public.put-octets M = putOctets.met
+keeps public.put-octet M = putOctet.met
+keeps public.put-be16 M = putBe16.met
+keeps public.put-be32 M = putBe32.met
+keeps public.number-of M = numberOf.met
+keeps public.header-of M = headerOf.met
+keeps public.size-of M = sizeOf.met
+keeps public.data-of M = dataOf.met
+keeps public.walk M = walkAll.met
+keeps public.is-possible M = isPossible.met
+keeps public.blocks-for M = blocksFor.met
+keeps public.grant-blocks M = grantBlocks.met
+keeps public.free-blocks M = freeBlocks.met
+keeps public.store-octets M = storeOctets.met
+keeps public.gather-octets M = gatherOctets.met
+keeps public.marks-match M = marksMatch.met
+keeps public.need-of M = needOf.met
+keeps public.is-illegal M = isIllegal.met
+keeps public.is-fine M = isFine.met
+keeps public.plan-packet M = planPacket.met
+keeps public.fresh-start M = freshStart.met
+keeps public.is-sound M = isSound.met
+keeps public.put M = putText.met
+keeps public.put-decimal M = putDecimal.met
+keeps public.put-numbers M = putNumbers.met
+keeps public.list M = listAll.met
+keeps public.list-recording M = listRecording.met
+keeps public.octets-of M = octetsOf.met
+keeps public.written M = writtenPart.met
+keeps public.begin M = beginRun.met
+keeps public.replay-some M = replaySome.met

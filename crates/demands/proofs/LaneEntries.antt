@@ -1,0 +1,78 @@
+-- Opening, packet and closing meet demand 1. Their order gives the number of the definition, and the laws of the calls say that a refusal leaves state, pool
+-- and output.
+use Prim.Native.Nat.{ℕ}
+use mathlib.Core.Path.{_≡_, refl, sym, ap, _∙_}
+use lib.ListN.{length}
+use Rattle.lane.specs.declared.Step.{Step}
+use Rattle.lane.specs.declared.Step.the-variants.{Refuse, Repeat, Stray, Hold, Unit}
+use Rattle.intake.specs.Calls.{openingRefusal, closingRefusal, packetStep}
+use Rattle.intake.specs.After.{opening, closing, closingOut, taking, takingPool, takingOut}
+use Rattle.intake.specs.Told.{telling}
+use Rattle.intake.proofs.Given.{answer-told}
+use Rattle.demands.specs.Order.{refusalOf}
+use Rattle.demands.specs.Entry.{Demand1}
+use Rattle.demands.specs.Entries.{Taking, leading, openLane, takePacket, closeLane}
+use Rattle.demands.proofs.Laws.{packet-order, refused-leaves, refused-opening-leaves, refused-closing-leaves}
+use Rattle.demands.proofs.Refusals.{demand}
+
+pub opens-lane : Demand1 openLane
+unfolding opening openingRefusal
+opens-lane = demand openLane (λ g. opening (g .state) (g .lane) (g .settings) (length (g .pool)) .refusal) (λ g. refl)
+    (λ g. (opening (g .state) (g .lane) (g .settings) (length (g .pool)) .refusal, (opening (g .state) (g .lane) (g .settings) (length (g .pool)) .state, refl)))
+    (λ g a l p. (ap (λ c. c .refusal) p, λ r. ap (λ c. c .state) p ∙ refused-opening-leaves (g .state) (g .lane) (g .settings) (length (g .pool)) r))
+    (λ g a b l m p q. (ap (λ c. c .refusal) (p ∙ sym q), ap (λ c. c .state) (p ∙ sym q)))
+
+pub closes-lane : Demand1 closeLane
+unfolding closing closingRefusal
+closes-lane = demand closeLane (λ g. closing (g .state) (g .lane) (length (g .pool)) (length (g .out)) .refusal) (λ g. refl)
+    (λ g. (
+      closing (g .state) (g .lane) (length (g .pool)) (length (g .out)) .refusal,
+      ((closing (g .state) (g .lane) (length (g .pool)) (length (g .out)) .state, closingOut (g .state) (g .lane) (length (g .pool)) (g .out)), (refl, refl)),
+    ))
+    (λ g a l p. (
+      ap (λ c. c .refusal) (p .0),
+      λ r.
+          let left = refused-closing-leaves (g .state) (g .lane) (length (g .pool)) (g .out) r in
+          λ i. ((ap (λ c. c .state) (p .0) ∙ left .0) i, (p .1 ∙ left .1) i),
+    ))
+    (λ g a b l m p q. (ap (λ c. c .refusal) (p .0 ∙ sym (q .0)), λ i. ((p .0 ∙ sym (q .0)) i .state, (p .1 ∙ sym (q .1)) i)))
+
+-- ---- a packet
+begins : (d : Step) → leading (telling d) ≡ refusalOf d
+begins (Refuse k) = refl
+begins Repeat = refl
+begins (Stray a) = refl
+begins (Hold a on n) = refl
+begins (Unit a on n) = refl
+
+refused-only : (d : Step) → (refusalOf d ≡ 0 → ⊥) → (n : ℕ) × (d ≡ Refuse n)
+refused-only (Refuse k) h = (k, refl)
+refused-only Repeat h = absurd (h refl)
+refused-only (Stray a) h = absurd (h refl)
+refused-only (Hold a on n) h = absurd (h refl)
+refused-only (Unit a on n) h = absurd (h refl)
+
+abbrev stepOf : Taking → Step
+stepOf g = packetStep (g .state) (g .lane) (g .packet) (length (g .pool)) (length (g .out))
+
+pub takes-packet : Demand1 takePacket
+takes-packet = demand takePacket (λ g. refusalOf (stepOf g))
+    (λ g. packet-order (g .state) (g .shaped) (g .lane) (g .packet) (length (g .pool)) (length (g .out)))
+    (λ g. let t = taking (g .state) (g .lane) (g .packet) (length (g .pool)) (length (g .out)) in (
+      t .answer,
+      (
+        (t .state, takingPool (g .state) (g .lane) (g .packet) (length (g .out)) (g .pool), takingOut (g .state) (g .lane) (g .packet) (g .pool) (g .out)),
+        (answer-told (g .state) (g .lane) (g .packet) (length (g .pool)) (length (g .out)) t refl, (refl, (refl, refl))),
+      ),
+    ))
+    (λ g a l p. (
+      ap leading (p .0) ∙ begins (stepOf g),
+      λ r.
+          let d = refused-only (stepOf g) r in
+          let left = refused-leaves (g .state) (g .lane) (g .packet) (g .pool) (g .out) (d .0) (d .1) in
+          λ i. ((ap (λ c. c .state) (p .1 .0) ∙ left .0) i, (p .1 .1 .0 ∙ left .1) i, (p .1 .1 .1 ∙ left .2) i),
+    ))
+    (λ g a b l m p q. (
+      ap (λ c. c .answer) (p .1 .0 ∙ sym (q .1 .0)),
+      λ i. ((p .1 .0 ∙ sym (q .1 .0)) i .state, (p .1 .1 .0 ∙ sym (q .1 .1 .0)) i, (p .1 .1 .1 ∙ sym (q .1 .1 .1)) i),
+    ))

@@ -1,0 +1,151 @@
+-- Every public function of the code, by its name: its signature, its contract and its code, as the toolchain has them.
+use mathlib.Core.Path.{_≡_}
+use denote.Ref.{ptr, now}
+use Rattle.packet.proofs.read_packet as readPacket
+use Rattle.walk.proofs.packet_at as packetAt
+use Rattle.writing.proofs.write_space as writeSpace
+use Rattle.writing.proofs.write_encapsulation as writeEncapsulation
+use Rattle.record.proofs.read_record as readRecord
+use Rattle.record.proofs.read_record_file as readRecordFile
+use Rattle.record.proofs.write_record as writeRecord
+use Rattle.intake.proofs.open_lane as openLane
+use Rattle.intake.proofs.take_packet as takePacket
+use Rattle.intake.proofs.close_lane as closeLane
+use Rattle.branmuslin.proofs.branmuslin_read_packet as branmuslinReadPacket
+use Rattle.branmuslin.proofs.branmuslin_write_space as branmuslinWriteSpace
+use Rattle.branmuslin.proofs.branmuslin_write_encapsulation as branmuslinWriteEncapsulation
+use Rattle.branmuslin.proofs.branmuslin_read_record as branmuslinReadRecord
+use Rattle.branmuslin.proofs.branmuslin_read_record_file as branmuslinReadRecordFile
+use Rattle.branmuslin.proofs.branmuslin_write_record as branmuslinWriteRecord
+use Rattle.octets.proofs.octet_at as octetAt
+use Rattle.octets.proofs.be16_at as be16At
+use Rattle.octets.proofs.be32_at as be32At
+use Rattle.octets.proofs.put_octets as putOctets
+use Rattle.octets.proofs.put_octet as putOctet
+use Rattle.octets.proofs.put_be16 as putBe16
+use Rattle.octets.proofs.put_be32 as putBe32
+use Rattle.packet.proofs.number_of as numberOf
+use Rattle.packet.proofs.header_of as headerOf
+use Rattle.packet.proofs.size_of as sizeOf
+use Rattle.packet.proofs.data_of as dataOf
+use Rattle.walk.proofs.walk as walkAll
+use Rattle.record.proofs.is_possible as isPossible
+use Rattle.pool.proofs.blocks_for as blocksFor
+use Rattle.pool.proofs.grant_blocks as grantBlocks
+use Rattle.pool.proofs.free_blocks as freeBlocks
+use Rattle.pool.proofs.store_octets as storeOctets
+use Rattle.pool.proofs.gather_octets as gatherOctets
+use Rattle.pool.proofs.marks_match as marksMatch
+use Rattle.lane.proofs.need_of as needOf
+use Rattle.lane.proofs.is_illegal as isIllegal
+use Rattle.lane.proofs.is_fine as isFine
+use Rattle.lane.proofs.plan_packet as planPacket
+use Rattle.intake.proofs.fresh_start as freshStart
+use Rattle.intake.proofs.is_sound as isSound
+use Rattle.text.proofs.put as putText
+use Rattle.text.proofs.put_decimal as putDecimal
+use Rattle.text.proofs.put_numbers as putNumbers
+use Rattle.listing.proofs.list as listAll
+use Rattle.listing.proofs.list_recording as listRecording
+use Rattle.listing.proofs.octets_of as octetsOf
+use Rattle.listing.proofs.written as writtenPart
+use Rattle.replaying.proofs.begin as beginRun
+use Rattle.replaying.proofs.replay_some as replaySome
+use Rattle.demands.specs.Contract.{Function, valued}
+use Rattle.demands.specs.Exported as name
+use Rattle.demands.specs.Exported.{Name}
+
+pub data Public : Type 0 where
+  the-entry : Name → Public
+  octet-at : Public
+  be16-at : Public
+  be32-at : Public
+  put-octets : Public
+  put-octet : Public
+  put-be16 : Public
+  put-be32 : Public
+  number-of : Public
+  header-of : Public
+  size-of : Public
+  data-of : Public
+  walk : Public
+  is-possible : Public
+  blocks-for : Public
+  grant-blocks : Public
+  free-blocks : Public
+  store-octets : Public
+  gather-octets : Public
+  marks-match : Public
+  need-of : Public
+  is-illegal : Public
+  is-fine : Public
+  plan-packet : Public
+  fresh-start : Public
+  is-sound : Public
+  put : Public
+  put-decimal : Public
+  put-numbers : Public
+  list : Public
+  list-recording : Public
+  octets-of : Public
+  written : Public
+  begin : Public
+  replay-some : Public
+
+abbrev named : Name → Function
+named name.read-packet = valued readPacket.ended (λ M. readPacket.clauses) readPacket.Symbol.routine
+named name.packet-at = valued packetAt.ended (λ M. packetAt.clauses) packetAt.Symbol.routine
+named name.write-space = valued writeSpace.ended (λ M. writeSpace.clauses) writeSpace.Symbol.routine
+named name.write-encapsulation = valued writeEncapsulation.ended (λ M. writeEncapsulation.clauses) writeEncapsulation.Symbol.routine
+named name.read-record = valued readRecord.ended (λ M. readRecord.clauses) readRecord.Symbol.routine
+named name.read-record-file = valued readRecordFile.ended (λ M. readRecordFile.clauses) readRecordFile.Symbol.routine
+named name.write-record = valued writeRecord.ended (λ M. writeRecord.clauses) writeRecord.Symbol.routine
+named name.open-lane = valued openLane.ended (λ M. openLane.clauses) openLane.Symbol.routine
+named name.take-packet = valued takePacket.ended (λ M. takePacket.clauses) takePacket.Symbol.routine
+named name.close-lane = valued closeLane.ended (λ M. closeLane.clauses) closeLane.Symbol.routine
+named name.branmuslin-read-packet = valued branmuslinReadPacket.ended (λ M. branmuslinReadPacket.clauses) branmuslinReadPacket.Symbol.routine
+named name.branmuslin-write-space = valued branmuslinWriteSpace.ended (λ M. branmuslinWriteSpace.clauses) branmuslinWriteSpace.Symbol.routine
+named name.branmuslin-write-encapsulation = valued branmuslinWriteEncapsulation.ended (λ M. branmuslinWriteEncapsulation.clauses) branmuslinWriteEncapsulation.Symbol.routine
+named name.branmuslin-read-record = valued branmuslinReadRecord.ended (λ M. branmuslinReadRecord.clauses) branmuslinReadRecord.Symbol.routine
+named name.branmuslin-read-record-file = valued branmuslinReadRecordFile.ended (λ M. branmuslinReadRecordFile.clauses) branmuslinReadRecordFile.Symbol.routine
+named name.branmuslin-write-record = valued branmuslinWriteRecord.ended (λ M. branmuslinWriteRecord.clauses) branmuslinWriteRecord.Symbol.routine
+
+-- `data-of` and `written` give back a part of a slice that they were lent: where it lies, and its octets
+abbrev pub function : Public → Function
+function (the-entry n) = named n
+function octet-at = valued octetAt.ended (λ M. octetAt.clauses) octetAt.Symbol.routine
+function be16-at = valued be16At.ended (λ M. be16At.clauses) be16At.Symbol.routine
+function be32-at = valued be32At.ended (λ M. be32At.clauses) be32At.Symbol.routine
+function put-octets = valued putOctets.ended (λ M. putOctets.clauses) putOctets.Symbol.routine
+function put-octet = valued putOctet.ended (λ M. putOctet.clauses) putOctet.Symbol.routine
+function put-be16 = valued putBe16.ended (λ M. putBe16.clauses) putBe16.Symbol.routine
+function put-be32 = valued putBe32.ended (λ M. putBe32.clauses) putBe32.Symbol.routine
+function number-of = valued numberOf.ended (λ M. numberOf.clauses) numberOf.Symbol.routine
+function header-of = valued headerOf.ended (λ M. headerOf.clauses) headerOf.Symbol.routine
+function size-of = valued sizeOf.ended (λ M. sizeOf.clauses) sizeOf.Symbol.routine
+function data-of =
+    record { ended = dataOf.ended; clauses = λ M. dataOf.clauses; routine = dataOf.Symbol.routine; Same = λ κs r q. (ptr r ≡ ptr q) × (now r ≡ now q) }
+function walk = valued walkAll.ended (λ M. walkAll.clauses) walkAll.Symbol.routine
+function is-possible = valued isPossible.ended (λ M. isPossible.clauses) isPossible.Symbol.routine
+function blocks-for = valued blocksFor.ended (λ M. blocksFor.clauses) blocksFor.Symbol.routine
+function grant-blocks = valued grantBlocks.ended (λ M. grantBlocks.clauses) grantBlocks.Symbol.routine
+function free-blocks = valued freeBlocks.ended (λ M. freeBlocks.clauses) freeBlocks.Symbol.routine
+function store-octets = valued storeOctets.ended (λ M. storeOctets.clauses) storeOctets.Symbol.routine
+function gather-octets = valued gatherOctets.ended (λ M. gatherOctets.clauses) gatherOctets.Symbol.routine
+function marks-match = valued marksMatch.ended (λ M. marksMatch.clauses) marksMatch.Symbol.routine
+function need-of = valued needOf.ended (λ M. needOf.clauses) needOf.Symbol.routine
+function is-illegal = valued isIllegal.ended (λ M. isIllegal.clauses) isIllegal.Symbol.routine
+function is-fine = valued isFine.ended (λ M. isFine.clauses) isFine.Symbol.routine
+function plan-packet = valued planPacket.ended (λ M. planPacket.clauses) planPacket.Symbol.routine
+function fresh-start = valued freshStart.ended (λ M. freshStart.clauses) freshStart.Symbol.routine
+function is-sound = valued isSound.ended (λ M. isSound.clauses) isSound.Symbol.routine
+function put = valued putText.ended (λ M. putText.clauses) putText.Symbol.routine
+function put-decimal = valued putDecimal.ended (λ M. putDecimal.clauses) putDecimal.Symbol.routine
+function put-numbers = valued putNumbers.ended (λ M. putNumbers.clauses) putNumbers.Symbol.routine
+function list = valued listAll.ended (λ M. listAll.clauses) listAll.Symbol.routine
+function list-recording = valued listRecording.ended (λ M. listRecording.clauses) listRecording.Symbol.routine
+function octets-of = valued octetsOf.ended (λ M. octetsOf.clauses) octetsOf.Symbol.routine
+function written =
+    record { ended = writtenPart.ended; clauses = λ M. writtenPart.clauses; routine = writtenPart.Symbol.routine; Same = λ κs r q. (ptr r ≡ ptr q) × (now r ≡ now q) }
+function begin = valued beginRun.ended (λ M. beginRun.clauses) beginRun.Symbol.routine
+function replay-some = valued replaySome.ended (λ M. replaySome.clauses) replaySome.Symbol.routine
