@@ -1,6 +1,6 @@
 -- What a step leaves, as the code meets it.
 use Prim.Native.Nat.{ℕ, _+_, _≤_}
-use mathlib.Core.Path.{_≡_, refl, sym, ap, _∙_}
+use mathlib.Core.Path.{_≡_, refl, sym, _∙_}
 use mathlib.Core.Bool.{Bool, true, false, cond}
 use mathlib.Core.List.{List, _++_}
 use native.Mathlib.Omega.{arith}
@@ -14,12 +14,8 @@ use Rattle.pool.proofs.InBlocks.{gathered-at-most}
 use Rattle.lane.specs.declared.Lane.{Lane}
 use Rattle.lane.specs.declared.Added.{Added}
 use Rattle.lane.specs.declared.Step.the-variants as step
-use Rattle.lane.specs.Lane.{fine}
 use Rattle.lane.specs.Steps.{counted, laneAfter}
-use Rattle.intake.specs.declared.State.{State}
-use Rattle.intake.specs.declared.Answer.the-variants as answer
-use Rattle.intake.specs.State.{laneAt}
-use Rattle.intake.specs.After.{releasedFrom, withLane, grown, groupOf, marksAfter, poolAfter, outAfter, answered}
+use Rattle.intake.specs.After.{releasedFrom, grown, groupOf, marksAfter, poolAfter, outAfter, keptAfter}
 use Rattle.intake.specs.Ready.{Holds, Ends}
 
 module _ (marks : List ℕ) (i : ℕ) (l : Lane) (on : Bool) (pool out : List ℕ) where
@@ -39,40 +35,32 @@ unfolding groupOf
 group-most marks i l true pool = gathered-at-most marks i pool 0 (l .octets)
 group-most marks i l false pool = omega arith
 
--- ---- each step, from what its function worked out: the lane l, the marks m, the lane k after it and the state t
-module _ (s : State) (i : ℕ) (a : Added) (l : Lane) (el : l ≡ laneAt s i) where
-  pub fine-after : (units : ℕ) (grouped : Bool) (octets : ℕ) → fine (counted (laneAt s i) a units grouped octets) ≡ true → fine (counted l a units grouped octets) ≡ true
-  fine-after units grouped octets h = rw el h
-
-  pub strayed : (m : List ℕ) → m ≡ releasedFrom (s .marks) i l → (k : Lane) → k ≡ counted l a 0 false 0 → (t : State) → t ≡ withLane s i k m
-      → record { answer = answer.Stray (a .missing) (a .broke); state = t } ≡ answered s i (step.Stray a)
+-- ---- each step, from what its function worked out: the marks m and the lane k after it
+module _ (marks : List ℕ) (i : ℕ) (l : Lane) (a : Added) where
+  pub strayed : (k : Lane) → k ≡ counted l a 0 false 0 → (m : List ℕ) → m ≡ releasedFrom marks i l → record { lane = k; marks = m } ≡ keptAfter marks i l (step.Stray a)
   unfolding laneAfter marksAfter
-  strayed m em k ek t et = rw (et, ek, em, el)
+  strayed k ek m em = rw (ek, em)
 
   module _ (on : Bool) (n : ℕ) where
-    pub held-state : (m : List ℕ) → m ≡ grown (s .marks) i l on n → (k : Lane) → k ≡ counted l a 0 true n → (t : State) → t ≡ withLane s i k m
-        → record { answer = answer.Held (a .missing) (a .broke); state = t } ≡ answered s i (step.Hold a on n)
+    pub held-kept : (k : Lane) → k ≡ counted l a 0 true n → (m : List ℕ) → m ≡ grown marks i l on n → record { lane = k; marks = m } ≡ keptAfter marks i l (step.Hold a on n)
     unfolding laneAfter marksAfter
-    held-state m em k ek t et = rw (et, ek, em, el)
+    held-kept k ek m em = rw (ek, em)
 
-    pub held-pool : (u pool : List ℕ) → Holds i (laneAt s i) a on n (length u) (length pool) → (m : List ℕ) → m ≡ grown (s .marks) i l on n → (b : ℕ) → b ≡ cond on (l .octets) 0
-        → (after : List ℕ) → after ≡ storedIfFits m i pool b u → after ≡ poolAfter (s .marks) i (laneAt s i) (step.Hold a on n) u pool
+    pub held-pool : (u pool : List ℕ) → Holds i l a on n (length u) (length pool) → (m : List ℕ) → m ≡ grown marks i l on n → (b : ℕ) → b ≡ cond on (l .octets) 0
+        → (after : List ℕ) → after ≡ storedIfFits m i pool b u → after ≡ poolAfter marks i l (step.Hold a on n) u pool
     unfolding poolAfter
-    held-pool u pool (c, size, most, few, p) m em b eb after e =
-        e ∙ sym (is-stored m i pool b u p (omega (arith, size, most, eb ∙ ap (λ (x : Lane). cond on (x .octets) 0) el))) ∙ rw (em, eb, el)
+    held-pool u pool (c, size, most, few, p) m em b eb after e = e ∙ sym (is-stored m i pool b u p (omega (arith, size, most, eb))) ∙ rw (em, eb)
 
-    pub unit-state : (m : List ℕ) → m ≡ releasedFrom (s .marks) i l → (k : Lane) → k ≡ counted l a 1 false 0 → (t : State) → t ≡ withLane s i k m
-        → record { answer = answer.Unit n (a .missing) (a .broke); state = t } ≡ answered s i (step.Unit a on n)
+    pub unit-kept : (k : Lane) → k ≡ counted l a 1 false 0 → (m : List ℕ) → m ≡ releasedFrom marks i l → record { lane = k; marks = m } ≡ keptAfter marks i l (step.Unit a on n)
     unfolding laneAfter marksAfter
-    unit-state m em k ek t et = rw (et, ek, em, el)
+    unit-kept k ek m em = rw (ek, em)
 
-    pub unit-out : (u pool out : List ℕ) → Ends i (laneAt s i) a on n (length u) (length out) → (at : ℕ) → at ≡ length (groupOf (s .marks) i l on pool)
-        → (mid : List ℕ) → mid ≡ put out 0 (groupOf (s .marks) i l on pool) → (after : List ℕ) → after ≡ putIfFits mid at u
-        → after ≡ outAfter (s .marks) i (laneAt s i) (step.Unit a on n) u pool out
+    pub unit-out : (u pool out : List ℕ) → Ends i l a on n (length u) (length out) → (at : ℕ) → at ≡ length (groupOf marks i l on pool)
+        → (mid : List ℕ) → mid ≡ put out 0 (groupOf marks i l on pool) → (after : List ℕ) → after ≡ putIfFits mid at u
+        → after ≡ outAfter marks i l (step.Unit a on n) u pool out
     unfolding outAfter
     unit-out u pool out (c, size, room, few) at ea mid em after e =
-        let g = groupOf (s .marks) i l on pool in
-        let most : length g ≤ cond on (l .octets) 0 = group-most (s .marks) i l on pool in
-        let fits : 0 + length (g ++ u) ≤ length out = omega (arith, length-append g u, most, size, room, ap (λ (x : Lane). cond on (x .octets) 0) el) in
-        let w = then-put out 0 g u fits {out = mid} {out′ = after} {to = at} {to′ = at + length u} refl (omega (arith, ea), em) e in
-        rw (← el) (w .1)
+        let g = groupOf marks i l on pool in
+        let most : length g ≤ cond on (l .octets) 0 = group-most marks i l on pool in
+        let fits : 0 + length (g ++ u) ≤ length out = omega (arith, length-append g u, most, size, room) in
+        then-put out 0 g u fits {out = mid} {out′ = after} {to = at} {to′ = at + length u} refl (omega (arith, ea), em) e .1

@@ -21,11 +21,13 @@ use Rattle.lane.proofs.Accepted.{accepted-data}
 use Rattle.lane.proofs.Planned.{of-either, Planned, planned, held-most}
 use Rattle.lane.proofs.Planned as plan
 use Rattle.intake.specs.declared.State.{State}
+use Rattle.intake.specs.declared.Answer.{Answer}
 use Rattle.intake.specs.declared.Answered.{Answered}
+use Rattle.intake.specs.declared.taking.Kept.{Kept}
 use Rattle.intake.specs.declared.Answer.the-variants as answer
 use Rattle.intake.specs.State.{laneAt, others, unsound}
 use Rattle.intake.specs.Calls.{settle, packetStep}
-use Rattle.intake.specs.After.{userOf, marksAfter, poolAfter, outAfter, answerOf, taking, takingPool, takingOut}
+use Rattle.intake.specs.After.{withLane, userOf, marksAfter, poolAfter, outAfter, answerOf, taking, takingPool, takingOut}
 use Rattle.intake.specs.Told.{told, telling}
 use Rattle.intake.specs.Ready.{Ready}
 use Rattle.intake.proofs.Soundness.{then-sound, lane-fine, opened-small}
@@ -92,17 +94,18 @@ module _ (s : State) (eight : length (s .lanes) ≡ 8) (i : ℕ) (p : List ℕ) 
   -- as the code has them: the lane l, its plan, the step d and the user data u
   module _ (l : Lane) (el : l ≡ own) (pl : Plan) (ep : pl ≡ packetPlan l p room) (d : Step) (ed : d ≡ settle (others (s .lanes) i) pl)
       (u : List ℕ) (eu : u ≡ drop (6 + l .settings .secondary) p) where
-    pub ready-step : Ready i own d (length u) octets room
+    pub ready-step : Ready i l d (length u) octets room
     ready-step = rw (eu, ed, ep, el) (ready (planned own p room good))
 
-    pub as-promised : (pool out : List ℕ) → octets ≡ length pool → room ≡ length out → (r : Answered) (after-pool after-out : List ℕ) → Leaves s i d u pool out r after-pool after-out
-        → (r ≡ taking s i p (length pool) (length out)) × (after-pool ≡ takingPool s i p (length out) pool) × (after-out ≡ takingOut s i p pool out)
+    -- what is kept of the lane and the marks is put back into the state t, beside the answer a
+    pub as-promised : (pool out : List ℕ) → octets ≡ length pool → room ≡ length out → (kept : Kept) (after-pool after-out : List ℕ)
+        → Leaves (s .marks) i l d u pool out kept after-pool after-out → (a : Answer) → a ≡ answerOf d → (t : State) → t ≡ withLane s i (kept .lane) (kept .marks)
+        → (record { answer = a; state = t } ≡ taking s i p (length pool) (length out)) × (after-pool ≡ takingPool s i p (length out) pool) × (after-out ≡ takingOut s i p pool out)
     unfolding taking takingPool takingOut
-    as-promised pool out po ro r after-pool after-out w =
-        let e : d ≡ packetStep s i p octets room = rw (ed, ep, el) is-step in
+    as-promised pool out po ro kept after-pool after-out w a ea t et =
         let v : u ≡ userPart own p = rw (eu, el) in
         rw (← po, ← ro, ← is-step)
-        (w .0 ∙ rw (ed, ep, el), w .1 ∙ rw (ed, ep, v, el) (same-pool pool (planned own p room good)), w .2 ∙ rw (ed, ep, v, el) (same-out pool out (planned own p room good)))
+        (rw (et, ea, w .0, ed, ep, el), w .1 ∙ rw (ed, ep, v, el) (same-pool pool (planned own p room good)), w .2 ∙ rw (ed, ep, v, el) (same-out pool out (planned own p room good)))
 
 -- where the test fails, nothing is done
 pub refused-24 : (s : State) (i : ℕ) (p pool out : List ℕ) (u : Bool) → u ≡ unsound s (length pool) → u ≡ true

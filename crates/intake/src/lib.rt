@@ -26,6 +26,7 @@ use pool::POOL_OCTETS;
 use pool::marks_match;
 use record::RecordWritten;
 use record::write_record;
+use taking::answer_of;
 use taking::carry_out;
 use taking::settled;
 use taking::user_part;
@@ -163,16 +164,16 @@ pub fn take_packet(
         };
     }
     let lanes = s.lanes;
+    let marks = s.marks;
     let l = lane_at(lanes, lane);
     let step = settled(lanes, lane, plan_packet(l, octets, out.len()));
-    carry_out(
-        s,
-        lane,
-        step,
-        user_part(octets, l.settings.secondary),
-        pool,
-        out,
-    )
+    let user = user_part(octets, l.settings.secondary);
+    let kept = carry_out(l, marks, lane, step, user, pool, out);
+    let marks = kept.marks;
+    Answered {
+        answer: answer_of(step),
+        state: with_lane(s, lane, kept.lane, marks),
+    }
 }
 
 // Closes a lane and writes its credit record at the front of out.

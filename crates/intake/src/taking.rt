@@ -1,4 +1,5 @@
-// A packet's step: whether there is room for it, and what it does to state, pool and output.
+// A packet's step: whether there is room for it, and what it does to its lane, the marks, the pool and the output. The state is not handed through: a step
+// needs one lane of it and the marks, and what it leaves of them is put back once.
 ghost use mathlib.Core.Path.{_≡_};
 ghost use mathlib.Core.Bool.{true, false, cond};
 ghost use Prim.Native.Nat.{_+_, _≤_, _<_};
@@ -9,19 +10,15 @@ ghost use Rattle.pool.specs.Blocks.{poolOctets};
 ghost use Rattle.lane.specs.declared.Step.the-variants.{Stray, Hold, Unit};
 ghost use Rattle.lane.specs.Lane.{fine};
 ghost use Rattle.lane.specs.Steps.{counted};
-ghost use Rattle.intake.specs.State.{laneAt, others};
+ghost use Rattle.intake.specs.State.{others};
 ghost use Rattle.intake.specs.Calls.{settle};
-ghost use Rattle.intake.specs.After.{grown, groupOf, answered, poolAfter, outAfter};
+ghost use Rattle.intake.specs.After.{grown, groupOf, keptAfter, answerOf, poolAfter, outAfter};
 ghost use Rattle.intake.specs.Ready.{Counts, Holds, Ends, Ready};
 use crate::Answer;
-use crate::Answered;
 use crate::MOST;
-use crate::State;
 use crate::closing::one_if;
 use crate::closing::released;
-use crate::lanes::lane_at;
 use crate::lanes::total_of;
-use crate::lanes::with_lane;
 use crate::lanes::with_one;
 use lane::Added;
 use lane::CLOSED;
@@ -34,6 +31,12 @@ use pool::blocks_for;
 use pool::gather_octets;
 use pool::grant_blocks;
 use pool::store_octets;
+
+// A lane and the marks after a step.
+pub(crate) struct Kept {
+    pub(crate) lane: Lane,
+    pub(crate) marks: [u16; 64],
+}
 
 // What the other lanes hold or are promised.
 fn others_of(lanes: [Lane; 8], i: usize) -> usize
@@ -124,29 +127,24 @@ fn start_of(octets: u16, joins: bool) -> usize
 
 // The packet begins a group or is added to it: n octets with its user data.
 fn hold(
-    s: State,
+    l: Lane,
+    marks: [u16; 64],
     lane: usize,
     a: Added,
     joins: bool,
     n: usize,
     user: &[u8],
     pool: &mut [u8],
-) -> Answered
-    requires { ⌜ Holds lane (laneAt s lane) a joins n (length (now user)) (length (now pool)) ⌝ }
-    ensures { λ r. ⌜ r ≡ answered s lane (Hold a joins n) ⌝ }
-    ensures { λ _. ⌜ now (pool .exit) ≡ poolAfter (s .marks) lane (laneAt s lane) (Hold a joins n) (now (user .entry)) (now (pool .entry)) ⌝ }
+) -> Kept
+    requires { ⌜ Holds lane l a joins n (length (now user)) (length (now pool)) ⌝ }
+    ensures { λ r. ⌜ r ≡ keptAfter marks lane l (Hold a joins n) ⌝ }
+    ensures { λ _. ⌜ now (pool .exit) ≡ poolAfter marks lane l (Hold a joins n) (now (user .entry)) (now (pool .entry)) ⌝ }
 {
-    let lanes = s.lanes;
-    let marks = s.marks;
-    let l = lane_at(lanes, lane);
-    let marks = grow(marks, lane, l, joins, n);
-    store_octets(&marks, lane as u8, pool, start_of(l.octets, joins), user);
-    Answered {
-        answer: Answer::Held {
-            missing: a.missing,
-            given_up: a.broke,
-        },
-        state: with_lane(s, lane, count_in(l, a, 0, true, n as u16), marks),
+    let after = grow(marks, lane, l, joins, n);
+    store_octets(&after, lane as u8, pool, start_of(l.octets, joins), user);
+    Kept {
+        lane: count_in(l, a, 0, true, n as u16),
+        marks: after,
     }
 }
 
@@ -169,9 +167,10 @@ fn put_group(
     0
 }
 
-// The packet ends a unit of n octets: the group that goes on and its user data.
+// The packet ends a unit: the group that goes on and its user data, which fit the output.
 fn end_unit(
-    s: State,
+    l: Lane,
+    marks: [u16; 64],
     lane: usize,
     a: Added,
     joins: bool,
@@ -179,78 +178,81 @@ fn end_unit(
     user: &[u8],
     pool: &[u8],
     out: &mut [u8],
-) -> Answered
-    requires { ⌜ Ends lane (laneAt s lane) a joins n (length (now user)) (length (now out)) ⌝ }
-    ensures { λ r. ⌜ r ≡ answered s lane (Unit a joins n) ⌝ }
-    ensures { λ _. ⌜ now (out .exit) ≡ outAfter (s .marks) lane (laneAt s lane) (Unit a joins n) (now (user .entry)) (now (pool .entry)) (now (out .entry)) ⌝ }
+) -> Kept
+    requires { ⌜ Ends lane l a joins n (length (now user)) (length (now out)) ⌝ }
+    ensures { λ r. ⌜ r ≡ keptAfter marks lane l (Unit a joins n) ⌝ }
+    ensures { λ _. ⌜ now (out .exit) ≡ outAfter marks lane l (Unit a joins n) (now (user .entry)) (now (pool .entry)) (now (out .entry)) ⌝ }
 {
-    let lanes = s.lanes;
-    let marks = s.marks;
-    let l = lane_at(lanes, lane);
     let at = put_group(marks, lane, l, joins, pool, out);
     put_octets(out, at, user);
-    let marks = released(marks, lane, l);
-    Answered {
-        answer: Answer::Unit {
-            octets: n,
-            missing: a.missing,
-            given_up: a.broke,
-        },
-        state: with_lane(s, lane, count_in(l, a, 1, false, 0), marks),
+    Kept {
+        lane: count_in(l, a, 1, false, 0),
+        marks: released(marks, lane, l),
     }
 }
 
 // The packet belongs to no group.
-fn stray(s: State, lane: usize, a: Added) -> Answered
-    requires { ⌜ Counts lane (laneAt s lane) a 0 false 0 ⌝ }
-    ensures { λ r. ⌜ r ≡ answered s lane (Stray a) ⌝ }
+fn stray(l: Lane, marks: [u16; 64], lane: usize, a: Added) -> Kept
+    requires { ⌜ Counts lane l a 0 false 0 ⌝ }
+    ensures { λ r. ⌜ r ≡ keptAfter marks lane l (Stray a) ⌝ }
 {
-    let lanes = s.lanes;
-    let marks = s.marks;
-    let l = lane_at(lanes, lane);
-    let marks = released(marks, lane, l);
-    Answered {
-        answer: Answer::Stray {
-            missing: a.missing,
-            given_up: a.broke,
-        },
-        state: with_lane(s, lane, count_in(l, a, 0, false, 0), marks),
+    Kept {
+        lane: count_in(l, a, 0, false, 0),
+        marks: released(marks, lane, l),
     }
 }
 
 // Takes the step.
 pub(crate) fn carry_out(
-    s: State,
+    l: Lane,
+    marks: [u16; 64],
     lane: usize,
     step: Step,
     user: &[u8],
     pool: &mut [u8],
     out: &mut [u8],
-) -> Answered
-    requires { ⌜ Ready lane (laneAt s lane) step (length (now user)) (length (now pool)) (length (now out)) ⌝ }
-    ensures { λ r. ⌜ r ≡ answered s lane step ⌝ }
-    ensures { λ _. ⌜ now (pool .exit) ≡ poolAfter (s .marks) lane (laneAt s lane) step (now (user .entry)) (now (pool .entry)) ⌝ }
-    ensures { λ _. ⌜ now (out .exit) ≡ outAfter (s .marks) lane (laneAt s lane) step (now (user .entry)) (now (pool .entry)) (now (out .entry)) ⌝ }
+) -> Kept
+    requires { ⌜ Ready lane l step (length (now user)) (length (now pool)) (length (now out)) ⌝ }
+    ensures { λ r. ⌜ r ≡ keptAfter marks lane l step ⌝ }
+    ensures { λ _. ⌜ now (pool .exit) ≡ poolAfter marks lane l step (now (user .entry)) (now (pool .entry)) ⌝ }
+    ensures { λ _. ⌜ now (out .exit) ≡ outAfter marks lane l step (now (user .entry)) (now (pool .entry)) (now (out .entry)) ⌝ }
 {
     match step {
-        Step::Refuse(number) => Answered {
-            answer: Answer::Refused(number),
-            state: s,
-        },
-        Step::Repeat => Answered {
-            answer: Answer::Repeat,
-            state: s,
-        },
-        Step::Stray(a) => stray(s, lane, a),
+        Step::Refuse(_) => Kept { lane: l, marks },
+        Step::Repeat => Kept { lane: l, marks },
+        Step::Stray(a) => stray(l, marks, lane, a),
         Step::Hold {
             added,
             joins,
             octets,
-        } => hold(s, lane, added, joins, octets, user, pool),
+        } => hold(l, marks, lane, added, joins, octets, user, pool),
         Step::Unit {
             added,
             joins,
             octets,
-        } => end_unit(s, lane, added, joins, octets, user, pool, out),
+        } => end_unit(l, marks, lane, added, joins, octets, user, pool, out),
+    }
+}
+
+// What a step is answered.
+pub(crate) fn answer_of(step: Step) -> Answer
+    ensures { λ r. ⌜ r ≡ answerOf step ⌝ }
+{
+    match step {
+        Step::Refuse(number) => Answer::Refused(number),
+        Step::Repeat => Answer::Repeat,
+        Step::Stray(a) => Answer::Stray {
+            missing: a.missing,
+            given_up: a.broke,
+        },
+        Step::Hold { added, .. } => Answer::Held {
+            missing: added.missing,
+            given_up: added.broke,
+        },
+        Step::Unit { added, octets, .. } => Answer::Unit {
+            octets,
+            missing: added.missing,
+            given_up: added.broke,
+        },
     }
 }

@@ -1,29 +1,28 @@
 -- The marks grow and the octets are stored after those of the group (`Carried`).
 use native.Mathlib.Omega.{arith}
 use denote.Ref.{now}
-use Rattle.intake.proofs.Carried.{fine-after, held-state, held-pool}
+use Rattle.intake.proofs.Carried.{held-kept, held-pool}
 use borrow.Author.Needs.{needs}
 use Rattle.intake.proofs.taking.hold.Statement.{statement}
 use Rattle.intake.proofs.taking.hold.Tie as tie
 
 grow-requires : tie.Need-grow-requires
-grow-requires c κs = let p = c .before .before .before .before .before .pre in rw (c .lane-at .ensures .0) (p .0 .0, p .2, omega (arith, p .1))
+grow-requires c κs = let p = c .before .before .pre in (p .0 .0, p .2, omega (arith, p .1))
 
 count-in-requires : tie.Need-count-in-requires
-count-in-requires c κs = fine-after (c .before .before .before .before .before .before .before .before .before .before .before .before .args .s) _ _ _ (c .before .before .before .before .before .before .before .lane-at .ensures .0) _ _ _ (c .before .before .before .before .before .before .before .before .before .before .before .before .pre .0 .1)
+count-in-requires c κs = c .before .before .before .before .before .before .before .before .before .pre .0 .1
 
 returns : tie.Need-returns
 returns c =
-    let s = c .before .before .before .before .before .before .before .before .before .before .before .before .before .before .args in (
-      held-state (s .s) _ _ _ (c .before .before .before .before .before .before .before .before .before .lane-at .ensures .0) _ _ _ (c .before .before .before .before .before .before .before .before .grow .ensures) _ (c .before .count-in .ensures) _ (c .with-lane .ensures),
-      held-pool (s .s) _ _ _ (c .before .before .before .before .before .before .before .before .before .lane-at .ensures .0) _ _ (now (s .user)) (now (s .pool)) (c .before .before .before .before .before .before .before .before .before .before .before .before .before .before .pre) _ (c .before .before .before .before .before .before .before .before .grow .ensures) _ (c .before .before .before .before .before .start-of .ensures) _ (c .before .before .before .before .store-octets .ensures),
+    let s = c .before .before .before .before .before .before .before .before .before .before .args in (
+      held-kept _ _ _ _ _ _ _ (c .count-in .ensures) _ (c .before .before .before .before .before .before .before .grow .ensures),
+      held-pool _ _ _ _ _ _ (now (s .user)) (now (s .pool)) (c .before .before .before .before .before .before .before .before .before .before .pre) _ (c .before .before .before .before .before .before .before .grow .ensures) _ (c .before .before .before .before .start-of .ensures) _ (c .before .before .before .store-octets .ensures),
     )
 
 pub hold-spec : {M : Type 1} → statement M
 hold-spec =
     tie.close
     (tie.spec
-    (λ c κs. search needs)
     grow-requires
     (λ c. search needs)
     (λ c. search needs)
@@ -31,6 +30,5 @@ hold-spec =
     (λ c κs. search needs)
     (λ c. search needs)
     count-in-requires
-    (λ c κs. search needs)
     (λ c. search needs)
     returns)
