@@ -1,11 +1,13 @@
 -- What a fine lane is, clause by clause, both ways; and what legal settings are.
 use Prim.Native.Nat.{ℕ, _+_, _*_, _-_, _≤_}
-use mathlib.Core.Path.{_≡_, refl, sym}
+use mathlib.Core.Path.{_≡_, refl, sym, _∙_}
 use mathlib.Core.Bool.{Bool, true, false, not, _&&_, _||_, true≢false}
 use native.Mathlib.Omega.{arith}
 use borrow.Author.Tests.{leb-true, le-leb, ltb-false, le-ltb, eqb-true, eq-eqb}
 use lib.Dec.{eqb, leb, ltb}
 use Rattle.octets.proofs.Order.{either, neither, both}
+use Rattle.octets.specs.Octets.{one}
+use Rattle.pool.specs.Blocks.{blocksFor}
 use Rattle.record.specs.Record.{mostMissing, possible}
 use Rattle.lane.specs.declared.Settings.{Settings}
 use Rattle.lane.specs.declared.Lane.{Lane}
@@ -127,3 +129,33 @@ fine-is l h =
     not-not : (b : Bool) → not b ≡ false → b ≡ true
     not-not true z = refl
     not-not false z = absurd (true≢false z)
+
+-- ---- a closed lane that has taken nothing
+abbrev blank : Lane → Bool
+blank l =
+    leb (l .settings .apid) 2046 && eqb (l .units) 0 && eqb (l .packets) 0 && eqb (l .missing) 0 && eqb (l .broken) 0 && leb (l .last) 16383 && not (l .grouped) && eqb (l .octets) 0
+
+pub blank-fine : (l : Lane) → l .opened ≡ false → blank l ≡ true → fine l ≡ true
+unfolding blocksFor one
+blank-fine l shut h =
+    let a1 = both (leb (l .settings .apid) 2046 && eqb (l .units) 0 && eqb (l .packets) 0 && eqb (l .missing) 0 && eqb (l .broken) 0 && leb (l .last) 16383 && not (l .grouped)) (eqb (l .octets) 0) h in
+    let a2 = both (leb (l .settings .apid) 2046 && eqb (l .units) 0 && eqb (l .packets) 0 && eqb (l .missing) 0 && eqb (l .broken) 0 && leb (l .last) 16383) (not (l .grouped)) (a1 .0) in
+    let a3 = both (leb (l .settings .apid) 2046 && eqb (l .units) 0 && eqb (l .packets) 0 && eqb (l .missing) 0 && eqb (l .broken) 0) (leb (l .last) 16383) (a2 .0) in
+    let a4 = both (leb (l .settings .apid) 2046 && eqb (l .units) 0 && eqb (l .packets) 0 && eqb (l .missing) 0) (eqb (l .broken) 0) (a3 .0) in
+    let a5 = both (leb (l .settings .apid) 2046 && eqb (l .units) 0 && eqb (l .packets) 0) (eqb (l .missing) 0) (a4 .0) in
+    let a6 = both (leb (l .settings .apid) 2046 && eqb (l .units) 0) (eqb (l .packets) 0) (a5 .0) in
+    let a7 = both (leb (l .settings .apid) 2046) (eqb (l .units) 0) (a6 .0) in
+    let none : l .octets ≡ 0 = eqb-true _ _ (a1 .1) in
+    let off : l .grouped ≡ false = not-false _ (a2 .1) in
+    let empty : l .packets ≡ 0 = eqb-true _ _ (a6 .1) in
+    let units : l .units ≡ 0 = eqb-true _ _ (a7 .1) in
+    let missing : l .missing ≡ 0 = eqb-true _ _ (a5 .1) in
+    let broken : l .broken ≡ 0 = eqb-true _ _ (a4 .1) in
+    fine-is l (record {
+      legal = λ o. absurd (true≢false (sym o ∙ shut));
+      within = rw none (omega arith);
+      nothing = λ o. none;
+      shut = λ o. off;
+      last = leb-true _ _ (a3 .1);
+      tallies = record { apid = leb-true _ _ (a7 .0); packets = rw empty (omega arith); units = rw (units, broken, off, empty) (omega arith); missing = rw (missing, empty) (omega arith) };
+    })

@@ -4,6 +4,7 @@ mod grouping;
 mod packets;
 
 ghost use mathlib.Core.Path.{_≡_};
+ghost use mathlib.Core.Bool.{true};
 ghost use Prim.Native.Nat.{_≤_, max};
 ghost use Rattle.octets.specs.Octets.{one};
 ghost use Rattle.lane.specs.Lane.{need, illegal, talliesPossible, fine};
@@ -144,10 +145,30 @@ fn are_tallies_possible(l: Lane) -> bool
         & (l.units as u64 + l.broken as u64 + one_if(l.grouped) <= l.packets as u64)
 }
 
+// Whether the lane is closed and has taken nothing, as most lanes are: such a lane is fine.
+fn is_blank(l: Lane) -> bool
+    ensures { λ r. ⌜ (r ≡ true → fine l ≡ true) ⌝ }
+{
+    if l.opened {
+        return false;
+    }
+    (l.settings.apid <= 2046)
+        & (l.units == 0)
+        & (l.packets == 0)
+        & (l.missing == 0)
+        & (l.broken == 0)
+        & (l.last <= 16383)
+        & !l.grouped
+        & (l.octets == 0)
+}
+
 // Whether the lane by itself is as a sound state asks.
 pub fn is_fine(l: Lane) -> bool
     ensures { λ r. ⌜ r ≡ fine l ⌝ }
 {
+    if is_blank(l) {
+        return true;
+    }
     (!l.opened | !is_illegal(l.settings))
         & (blocks_for(l.octets as usize) <= l.settings.cap as usize)
         & (l.grouped | (l.octets == 0))
