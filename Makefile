@@ -5,7 +5,8 @@ LIBDIR ?= $(PREFIX)/lib
 INSTALL ?= install
 CFLAGS ?= -O2 -Wall -Wextra
 
-archive := target/staticlib/libbranmuslin.a
+archive := target/lib/libbranmuslin.a
+proved := target/staticlib/libbranmuslin.a target/staticlib/liblanes.a
 header := include/branmuslin.h
 examples := $(patsubst examples/%.c,target/examples/%,$(wildcard examples/*.c))
 release = $(shell sed -n 's/^.define BRANMUSLIN_RELEASE "\(.*\)"/\1/p' $(header))
@@ -18,13 +19,15 @@ no_rt := the library is not built from these sources, and the Rattle toolchain (
 
 all: $(archive) $(examples)
 
-# The archive gets the time at which its proving began, so that a file changed meanwhile counts as newer.
+# The archive has an object for each of two crates, so that each is compiled by itself (docs/DECISIONS.md). It gets the time at which its proving
+# began, so that a file changed meanwhile counts as newer.
 $(archive): crates.txt $(shell find crates)
 	$(if $(shell command -v rt 2>&1),,$(error $(no_rt)))
-	@mkdir -p target && touch target/staticlib.begun
-	@echo 'proving and building the library; from nothing this takes a minute or two'
-	@rt staticlib branmuslin >target/staticlib.log 2>&1 || { tail -n 20 target/staticlib.log >&2; echo 'the library was not proved or built; see target/staticlib.log' >&2; exit 1; }
-	@touch -c -r target/staticlib.begun $@ && rm -f target/staticlib.begun
+	@mkdir -p $(@D) && touch target/lib/begun
+	@echo 'proving and building the library; from nothing this takes a few minutes'
+	@for crate in branmuslin lanes; do rt staticlib $$crate || exit; done >target/lib/log 2>&1 || { tail -n 20 target/lib/log >&2; echo 'the library was not proved or built; see target/lib/log' >&2; exit 1; }
+	@rm -f $@ && printf 'create $@\n$(foreach part,$(proved),addlib $(part)\n)save\nend\n' | $(AR) -M
+	@touch -c -r target/lib/begun $@ && rm -f target/lib/begun
 
 target/examples/%: examples/%.c $(header) $(archive)
 	@mkdir -p $(@D)
@@ -42,4 +45,4 @@ uninstall:
 	rm -f '$(include_to)/branmuslin.h' '$(lib_to)/libbranmuslin.a' '$(lib_to)/pkgconfig/branmuslin.pc'
 
 clean:
-	rm -rf target/examples $(archive) target/staticlib.begun target/staticlib.log
+	rm -rf target/examples target/lib $(proved)

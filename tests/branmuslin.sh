@@ -5,12 +5,13 @@ refuses() {
     "$@" >"$work/out" 2>"$work/err" </dev/null
     status=$?
     cat "$work/err"
-    [ "$status" -ne 0 ] && [ ! -s "$work/out" ] && [ "$(wc -l <"$work/err")" -eq 1 ] && grep -q "$line" "$work/err"
+    [ "$status" -ne 0 ] && [ ! -s "$work/out" ] && [ "$(wc -l <"$work/err")" -eq 1 ] && grep -q -- "$line" "$work/err"
 }
 
 helps() {
     ./branmuslin help >"$work/out" && grep -q 'list \[FILE\]' "$work/out" && grep -q 'replay \[FILE\]' "$work/out" &&
-        ./branmuslin list --help | cmp - "$work/out" && ./branmuslin replay -h | cmp - "$work/out"
+        grep -q 'credit --station N --apid N --secondary N --share N --cap N FILE' "$work/out" && ./branmuslin list --help | cmp - "$work/out" &&
+        ./branmuslin replay -h | cmp - "$work/out" && ./branmuslin credit -h | cmp - "$work/out" && ./branmuslin credit --cap 1 --help | cmp - "$work/out"
 }
 
 lists_sample() { ./branmuslin list samples/paper.bin | cmp - samples/paper.txt; }
@@ -19,6 +20,82 @@ replays_sample() {
     ./branmuslin replay samples/lanes.run >"$work/out" && cmp "$work/out" samples/lanes.txt &&
         ./branmuslin replay <samples/lanes.run >"$work/out" && cmp "$work/out" samples/lanes.txt
 }
+
+settings=(--station 7 --apid 42 --secondary 0 --share 1 --cap 2)
+
+# credit_prints LINES ARGUMENT..
+credit_prints() {
+    local lines=$1
+    shift
+    ./branmuslin credit "$@" >"$work/out" && diff <(printf '%s\n' "$lines") "$work/out"
+}
+
+credits_samples() {
+    credit_prints "8 refused 13 an Encapsulation Packet is sent to a lane
+9 refused 13 an Encapsulation Packet is sent to a lane
+14 refused 1 the octets end before the header or the packet does; the upload ends here, with octets left: 2
+units 1 packets 1 missing 0 broken 0 repeats 0 refused 3" "${settings[@]}" samples/paper.bin &&
+        ./branmuslin credit --cap 2 --share 1 --secondary 6 --apid 100 --station 65535 samples/every.bin >"$work/out" &&
+        [ "$(tail -n 1 "$work/out")" = 'units 1 packets 1 missing 0 broken 0 repeats 0 refused 18' ]
+}
+
+# Settings that the library refuses are told as it tells them.
+credits_nothing() {
+    credit_prints 'opening refused 22 the APID is over 2046, the secondary length over 63, the share over the cap, or the cap over 64' \
+        "${settings[@]}" --cap 65 samples/paper.bin
+}
+
+# Also a name with a colon, and one that begins as an option does.
+credits_odd_names() {
+    local name
+    for name in 'a name' a:b -x; do
+        cp samples/paper.bin "$work/$name" && (cd "$work" && "$OLDPWD/branmuslin" credit "${settings[@]}" -- "$name") | grep '^units 1 packets 1 ' || return
+    done
+}
+
+# Each setting that is missing, that is no number, and that is over its range.
+credit_settings() {
+    local i name word
+    for i in 0 2 4 6 8; do
+        name=${settings[i]} word=${settings[i]#--}
+        refuses "credit needs $name N" ./branmuslin credit "${settings[@]:0:i}" "${settings[@]:i + 2}" samples/paper.bin &&
+            refuses "$name needs a number after it" ./branmuslin credit "${settings[@]:0:i}" "$name" &&
+            refuses "$name is a number, not 'x'" ./branmuslin credit "${settings[@]}" "$name" x samples/paper.bin &&
+            refuses "$name is a number, not ''" ./branmuslin credit "${settings[@]}" "$name" '' samples/paper.bin &&
+            refuses "$name is a number, not '1:2'" ./branmuslin credit "${settings[@]}" "$name" 1:2 samples/paper.bin &&
+            refuses "${word^^} is a number from 0 to [0-9]*, not '70000'" ./branmuslin credit "${settings[@]}" "$name" 70000 samples/paper.bin || return
+    done
+}
+
+# credit_status STATUS ARGUMENT..
+credit_status() {
+    local status=$1
+    shift
+    ./branmuslin credit "$@" >"$work/out" 2>"$work/err" </dev/null
+    [ $? -eq "$status" ]
+}
+
+credit_statuses() {
+    credit_status 0 "${settings[@]}" samples/paper.bin && credit_status 1 "${settings[@]}" nowhere && credit_status 2 "${settings[@]}" &&
+        credit_status 2 "${settings[@]}" --cap 300 samples/paper.bin && credit_status 2 samples/paper.bin
+}
+
+credit_full_output() {
+    ./branmuslin credit "${settings[@]}" samples/paper.bin >/dev/full 2>"$work/err"
+    [ $? -eq 1 ] && [ "$(wc -l <"$work/err")" -eq 1 ] && grep 'standard output' "$work/err"
+}
+
+# In a copy: with a toolchain that proves nothing one line follows that which says what goes on; with none, or no make, there is one line.
+credit_unbuilt() {
+    rm -rf "$work/copy" && mkdir -p "$work/copy/bin" && cp -R branmuslin Makefile crates crates.txt include examples samples "$work/copy" &&
+        ln -s "$(type -P false)" "$work/copy/bin/rt" || return
+    PATH="$work/copy/bin:$PATH" "$work/copy/branmuslin" credit "${settings[@]}" samples/paper.bin >"$work/out" 2>"$work/err"
+    [ $? -eq 1 ] && [ ! -s "$work/out" ] && [ "$(wc -l <"$work/err")" -eq 2 ] && grep "'intake' was not proved or built; see" "$work/err" &&
+        refuses 'the command make is not installed' env PATH=/nowhere "$work/copy/branmuslin" credit "${settings[@]}" samples/paper.bin &&
+        { [ -x /usr/bin/rt ] || [ -x /bin/rt ] || refuses toolchain env PATH=/usr/bin:/bin "$work/copy/branmuslin" credit "${settings[@]}" samples/paper.bin; }
+}
+
+credit_starts_at_once() { [ -z "$(./branmuslin credit "${settings[@]}" samples/paper.bin 2>&1 >/dev/null)" ]; }
 
 runs_through_links() {
     ln -sf "$PWD/branmuslin" "$work/one" && ln -sf one "$work/two" && "$work/two" list samples/paper.bin | cmp - samples/paper.txt
@@ -70,6 +147,7 @@ check 'branmuslin help' helps
 # The first run of a word builds it, and says so in a line; so these come before what counts lines.
 check 'branmuslin list: samples/paper.bin' lists_sample
 check 'branmuslin replay: samples/lanes.run' replays_sample
+check 'branmuslin credit: the samples' credits_samples
 check 'branmuslin: no word' refuses 'which word' ./branmuslin
 check 'branmuslin: an unknown word' refuses "unknown word 'lits'" ./branmuslin lits
 for word in list replay; do
@@ -80,6 +158,18 @@ for word in list replay; do
     check "branmuslin $word: an output that is full" full_output "$word"
     check "branmuslin $word: a folder as standard input" folder_as_input "$word"
 done
+check 'branmuslin credit: settings that are missing or no numbers' credit_settings
+check 'branmuslin credit: settings that the library refuses' credits_nothing
+check 'branmuslin credit: an unknown option' refuses "unknown option '-x'" ./branmuslin credit "${settings[@]}" -x
+check 'branmuslin credit: a missing file' refuses 'no such file: nowhere' ./branmuslin credit "${settings[@]}" nowhere
+check 'branmuslin credit: a folder' refuses 'folder' ./branmuslin credit "${settings[@]}" samples
+check 'branmuslin credit: no file' refuses 'credit takes one file, after the options, and was given 0' ./branmuslin credit "${settings[@]}"
+check 'branmuslin credit: two files' refuses 'and was given 2' ./branmuslin credit "${settings[@]}" samples/paper.bin samples/every.bin
+check 'branmuslin credit: odd file names' credits_odd_names
+check 'branmuslin credit: its status' credit_statuses
+check 'branmuslin credit: an output that is full' credit_full_output
+check 'branmuslin credit: a build that fails, no toolchain, no make' credit_unbuilt
+check 'branmuslin credit: later runs start at once' credit_starts_at_once
 check 'branmuslin: from another folder' runs_from_elsewhere
 check 'branmuslin: through links' runs_through_links
 check 'branmuslin: odd file names' odd_names

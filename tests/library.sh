@@ -1,12 +1,12 @@
 # The C library as a C programmer meets it: built and installed by make, then used through the installed header and archive alone.
-archive=target/staticlib/libbranmuslin.a
+archive=target/lib/libbranmuslin.a
 prefix=$work/prefix
 cc=${CC:-cc}
 strict=(-Wall -Wextra -Werror)
 sanitized=(-g -fsanitize=address,undefined -fno-sanitize-recover=all)
 
 # With a toolchain that always fails: what is current is not built again.
-without_building() { mkdir -p "$work/failing" && ln -sf "$(command -v false)" "$work/failing/rt" && PATH="$work/failing:$PATH" "$@"; }
+without_building() { mkdir -p "$work/failing" && ln -sf "$(type -P false)" "$work/failing/rt" && PATH="$work/failing:$PATH" "$@"; }
 
 # A copy with nothing built, and no command on the path but those that make needs.
 no_rt_for_make() {
@@ -22,7 +22,7 @@ no_rt_for_make() {
 # A file changed since the library was built, or while it was built, makes it outdated.
 changes_are_noticed() {
     rm -rf "$work/copy" && mkdir -p "$work/copy/crates" "$work/copy/bin" && cp Makefile crates.txt "$work/copy" && : >"$work/copy/crates/a" &&
-        printf '#!/bin/sh\nsleep 0.1; [ ! -e edit ] || touch crates/a\nmkdir -p target/staticlib && touch %s\n' "$archive" \
+        printf '#!/bin/sh\nsleep 0.1; [ ! -e edit ] || touch crates/a\nmkdir -p target/staticlib && rm -f "target/staticlib/lib$2.a" && ar qc "target/staticlib/lib$2.a"\n' \
             >"$work/copy/bin/rt" && chmod +x "$work/copy/bin/rt" || return
     (
         cd "$work/copy" && PATH="$PWD/bin:$PATH" && make "$archive" && make -q "$archive" && sleep 0.1 && touch crates/a &&
@@ -77,7 +77,7 @@ header_in_cpp() {
 defined_names() { nm -g --defined-only "$archive" | awk 'NF == 3 { print $3 }' | sort; }
 
 names_are_those_declared() {
-    sed -n 's/^uint8_t \(branmuslin_[a-z_]*\)(.*/\1/p' include/branmuslin.h | sort >"$work/declared"
+    sed -nE 's/^(uint8_t|bool|struct branmuslin_[a-z]+) (branmuslin_[a-z_]+)\(.*/\2/p' include/branmuslin.h | sort >"$work/declared"
     [ -s "$work/declared" ] && diff "$work/declared" <(defined_names)
 }
 

@@ -1,7 +1,7 @@
 # The independent second program (tests/second): its own tests, then compared with the programs `cases`, `list` and `replay`, and with the C library by
 # calling it.
 second=$CARGO_TARGET_DIR/release/second
-export BRANMUSLIN_ARCHIVE=$PWD/target/staticlib/libbranmuslin.a
+export BRANMUSLIN_ARCHIVE=$PWD/target/lib/libbranmuslin.a
 
 second_cases() {
     "$second" cases >"$work/second-cases" </dev/null && target/bin/cases >"$work/cases" && cmp "$work/second-cases" "$work/cases" &&

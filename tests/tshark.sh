@@ -14,7 +14,7 @@ dissect() {
 }
 
 written_builds() {
-    make && "${CC:-cc}" -std=c11 -Wall -Wextra -Werror -Iinclude tests/tshark/written.c tests/c/check.c target/staticlib/libbranmuslin.a \
+    make && "${CC:-cc}" -std=c11 -Wall -Wextra -Werror -Iinclude tests/tshark/written.c tests/c/check.c target/lib/libbranmuslin.a \
         -o "$work/written"
 }
 

@@ -50,7 +50,7 @@ struct lent lend_noise(size_t length);
 void holds(struct place place, const char *what, struct lent lent, struct octets front);
 
 /* The same noise at every call, at most LONGEST_NOISE octets; and a number that follows from the one before, for pseudo-random tests. */
-#define LONGEST_NOISE 70000
+#define LONGEST_NOISE 100000
 struct octets noise(size_t length);
 uint32_t next_random(void);
 
@@ -66,6 +66,9 @@ void test_write(void);
 void test_record(void);
 void test_record_file(void);
 void test_round_trips(void);
+void test_lanes(void);
+void test_refused(void);
+void test_sound(void);
 void test_lengths_over_32_bits(void);
 
 #endif

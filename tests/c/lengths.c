@@ -48,11 +48,36 @@ static void outputs(uint8_t *octets)
     same(HERE, "a record's output", 0, branmuslin_write_record(0, 0, 0, 0, 0, 0, octets, OVER + 19));
 }
 
+/* The octets as a pool, a packet (of APID 0) and an output; and lane numbers over 32 bits. */
+static void lanes(uint8_t *octets)
+{
+    const struct branmuslin_settings settings = {0, 0, 0, 0, 1};
+    static uint8_t pool[BRANMUSLIN_POOL_LENGTH], output[300];
+    const uint8_t packet[] = {0x00, 0x00, 0xC0, 0x00, 0x00, 0x00, 0x55};
+    const size_t over_pool = OVER + sizeof pool;
+    const struct branmuslin_state state = branmuslin_open_lane(branmuslin_fresh_start(), 0, settings, pool, sizeof pool).state;
+    same(HERE, "opening, a pool", 24, branmuslin_open_lane(state, 1, settings, octets, over_pool).refusal);
+    same(HERE, "a packet, a pool", 24, branmuslin_take_packet(state, 0, packet, sizeof packet, octets, over_pool, output, sizeof output).refusal);
+    same(HERE, "closing, a pool", 24, branmuslin_close_lane(state, 0, octets, over_pool, output, sizeof output).refusal);
+    same(HERE, "opening, a lane", 11, branmuslin_open_lane(state, OVER + 1, settings, pool, sizeof pool).refusal);
+    same(HERE, "a packet, a lane", 11, branmuslin_take_packet(state, OVER, packet, sizeof packet, pool, sizeof pool, output, sizeof output).refusal);
+    same(HERE, "closing, a lane", 11, branmuslin_close_lane(state, OVER, pool, sizeof pool, output, sizeof output).refusal);
+    same(HERE, "a packet", 12, branmuslin_take_packet(state, 0, octets, OVER + 7, pool, sizeof pool, output, sizeof output).refusal);
+    same(HERE, "a unit's output", 1, branmuslin_take_packet(state, 0, packet, sizeof packet, pool, sizeof pool, octets, OVER).octets);
+    same(HERE, "a record's output", 0, branmuslin_close_lane(state, 0, pool, sizeof pool, octets, OVER + 19).refusal);
+}
+
+static void with_zeros(void (*test)(uint8_t *octets))
+{
+    const size_t length = OVER + BRANMUSLIN_POOL_LENGTH;
+    uint8_t *octets = zeros(length);
+    test(octets);
+    munmap(octets, length);
+}
+
 void test_lengths_over_32_bits(void)
 {
-    const size_t length = OVER + 4096;
-    uint8_t *octets = zeros(length);
-    inputs(octets);
-    outputs(octets);
-    munmap(octets, length);
+    with_zeros(inputs);
+    with_zeros(outputs);
+    with_zeros(lanes);
 }

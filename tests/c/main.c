@@ -9,6 +9,9 @@ int main(void)
         test_record();
         test_record_file();
         test_round_trips();
+        test_lanes();
+        test_refused();
+        test_sound();
     }
     home = BETWEEN_GUARDS;
     test_lengths_over_32_bits();

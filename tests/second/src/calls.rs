@@ -2,16 +2,19 @@
 //!
 //! Every call is made twice on equal memory, once by the library and once by
 //! this program's own functions; then the numbers returned and the whole of
-//! both memories must be the same.
+//! both memories must be the same. The lanes' functions, to which a state goes
+//! by value, are compared in runs of calls.
 
 mod both_ways;
 mod checker;
 mod functions;
 mod inputs;
+mod lanes;
 mod library;
 mod memory;
 #[cfg(test)]
 mod own;
+pub mod structs;
 #[cfg(test)]
 mod wrong;
 
@@ -29,13 +32,15 @@ use functions::write_space::WriteSpace;
 /// The calls that begin with one function.
 type Part = fn(&mut Checker<'_>) -> Result<(), String>;
 
-const PARTS: [Part; 6] = [
+const PARTS: [Part; 8] = [
     write_spaces,
     write_encaps,
     read_packets,
     write_records,
     read_records,
     read_files,
+    lanes::runs,
+    lanes::full_lane,
 ];
 
 /// A line for each function, or the first disagreement.
@@ -52,7 +57,8 @@ pub fn compare(library: &Library) -> Result<String, String> {
         checker.summary::<ReadRecord>()?,
         checker.summary::<ReadFile>()?,
     ];
-    Ok(functions.concat() + &both_ways::summary(&checker)?)
+    let ways = both_ways::summary(&checker)?;
+    Ok(functions.concat() + &ways + &lanes::summary(&checker)?)
 }
 
 fn write_spaces(checker: &mut Checker<'_>) -> Result<(), String> {
@@ -96,20 +102,25 @@ mod tests {
     #[test]
     fn this_programs_own_functions_agree_with_themselves() {
         let summary = compare(&own::library()).expect("they are the same functions");
-        let starts = [
-            "read_packet: ",
-            "write_space: ",
-            "write_encapsulation: ",
-            "write_record: ",
-            "read_record: ",
-            "read_record_file: ",
+        let functions = [
+            "read_packet",
+            "write_space",
+            "write_encapsulation",
+            "write_record",
+            "read_record",
+            "read_record_file",
+            "open_lane",
+            "take_packet",
+            "close_lane",
+            "is_sound",
         ];
-        for (line, start) in summary.lines().zip(starts) {
+        for function in functions {
+            let start = format!("{function}: ");
+            let line = summary.lines().find(|line| line.starts_with(&start));
             let calls = line
-                .strip_prefix(start)
-                .and_then(|rest| rest.split_once(" calls agree ("))
+                .and_then(|line| line[start.len()..].split_once(" calls agree ("))
                 .map(|(calls, _)| calls.parse::<usize>().expect("a number"));
-            assert!(calls.is_some_and(|calls| calls >= 5_000), "{line}");
+            assert!(calls.is_some_and(|calls| calls >= 5_000), "{function}");
         }
     }
 }

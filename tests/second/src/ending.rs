@@ -1,11 +1,12 @@
-//! How a program ends: with a text for its reader, or with what went wrong.
+//! How a program ends: with a text or octets for its reader, or with what went
+//! wrong.
 
 use std::io::{self, Write};
 use std::process::ExitCode;
 
-/// Prints the text, or tells the fault on standard error.
-pub fn ending(outcome: Result<String, String>) -> ExitCode {
-    let printed = outcome.and_then(|text| print(&text).map_err(|error| error.to_string()));
+/// Prints the text or the octets, or tells the fault on standard error.
+pub fn ending(outcome: Result<impl AsRef<[u8]>, String>) -> ExitCode {
+    let printed = outcome.and_then(|text| print(text.as_ref()).map_err(|error| error.to_string()));
     match printed {
         Ok(()) => ExitCode::SUCCESS,
         Err(fault) => {
@@ -15,8 +16,8 @@ pub fn ending(outcome: Result<String, String>) -> ExitCode {
     }
 }
 
-fn print(text: &str) -> io::Result<()> {
+fn print(octets: &[u8]) -> io::Result<()> {
     let mut stdout = io::stdout().lock();
-    stdout.write_all(text.as_bytes())?;
+    stdout.write_all(octets)?;
     stdout.flush()
 }

@@ -8,7 +8,7 @@ mod lane;
 mod packets;
 mod pool;
 
-pub use lane::{Accepted, Lane, Settings, COUNTS, LONGEST_SECONDARY};
+pub use lane::{Accepted, Lane, Past, Settings, COUNTS, LONGEST_SECONDARY};
 pub use packets::{Answer, Step};
 pub use pool::{blocks_for, Group, BLOCKS, BLOCK_OCTETS, POOL_OCTETS};
 
@@ -27,6 +27,12 @@ impl Lanes {
     /// Eight closed lanes.
     pub fn fresh() -> Self {
         Lanes::default()
+    }
+
+    /// Open lanes by their numbers, as they stand elsewhere.
+    pub fn taken_over(open: impl Iterator<Item = (u8, Lane)>) -> Self {
+        let open = open.collect();
+        Lanes { open }
     }
 
     pub fn open(&mut self, lane: u8, settings: Settings, pool: &[u8]) -> Result<(), Refusal> {
@@ -69,6 +75,11 @@ impl Lanes {
     pub fn blocks_within_reach(&self, lane: &Lane) -> usize {
         let others = self.blocks_promised() - lane.blocks_promised();
         (BLOCKS - others).min(lane.settings.cap.into())
+    }
+
+    /// Each lane keeps of its packets only the sums.
+    pub fn sum_up(&mut self) {
+        self.open.values_mut().for_each(Lane::sum_up);
     }
 
     pub fn blocks_held(&self) -> BTreeSet<usize> {

@@ -10,6 +10,7 @@ pub mod calls;
 pub mod cases;
 pub mod compare;
 pub mod compare_replay;
+pub mod credit;
 pub mod ending;
 pub mod forge;
 pub mod hex;

@@ -1,11 +1,16 @@
-//! The program `second`: lists, replays, prints the cases, and compares another
-//! program's listings, replays and cases with its own.
+//! The program `second`: lists, replays, prints the cases, credits files of
+//! packets, and compares another program's listings, replays and cases with its
+//! own.
 //!
 //! - `second list` lists standard input;
 //! - `second replay` replays the run file on standard input;
 //! - `second cases` prints the fixed cases (reading, listing, writing, records,
 //!   lanes) with their answers; or only those about standard input, if it holds
 //!   something;
+//! - `second credit STATION:APID:SECONDARY:SHARE:CAP:FILE...` opens one to eight
+//!   lanes, lane 0 first, takes one packet of each lane's file in turn until all
+//!   files are used up (what can't be read ends a file), closes the lanes, and
+//!   prints the 20 octets of each record;
 //! - `second compare PROGRAM`, `second compare-replay PROGRAM` and
 //!   `second compare-cases PROGRAM` run a program that should print what `list`,
 //!   `replay` or `cases` does, on thousands of inputs.
@@ -16,13 +21,14 @@
 use second::compare::{self, Comparison};
 use second::compare_replay::compare_replays;
 use second::ending::ending;
-use second::{cases, lister, replay};
+use second::{cases, credit, lister, replay};
 use std::env;
 use std::ffi::OsString;
 use std::io::{self, Read};
 use std::process::ExitCode;
 
 const USAGE: &str = "usage: second list | second replay | second cases | \
+    second credit STATION:APID:SECONDARY:SHARE:CAP:FILE... | \
     second compare PROGRAM [ARGUMENT...] | second compare-replay PROGRAM [ARGUMENT...] | \
     second compare-cases PROGRAM [ARGUMENT...]";
 
@@ -33,6 +39,7 @@ fn main() -> ExitCode {
         (Some("list"), 1) => ending(answer(lister::listing, lister::LONGEST_INPUT)),
         (Some("replay"), 1) => ending(answer(replay::text, replay::LONGEST_RUN)),
         (Some("cases"), 1) => ending(answer(cases::text, cases::LONGEST_CASE)),
+        (Some("credit"), 2..=9) => ending(credit::records(&words[1..])),
         (Some("compare"), 2..) => {
             ending(compared(compare::compare_listings(&words[1..]), "listed"))
         }

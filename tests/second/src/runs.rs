@@ -55,10 +55,24 @@ const FAMILIES: [Family; 14] = [
     family("too long", 13, full::FILES, full::too_long),
 ];
 
+/// Far enough from all other seeds, and such that what a family takes from the
+/// last digits of its seeds is the same.
+const OTHER_SEEDS: u64 = 1_000_000;
+
 /// Every run, each made when it is its turn: together they are many octets.
 pub fn all() -> impl Iterator<Item = Run> {
-    FAMILIES.iter().flat_map(|family| {
-        let seeds = family.first_seed..family.first_seed + family.number;
+    from_seed(0)
+}
+
+/// As many runs of the same families with other seeds.
+pub fn others() -> impl Iterator<Item = Run> {
+    from_seed(OTHER_SEEDS)
+}
+
+fn from_seed(start: u64) -> impl Iterator<Item = Run> {
+    FAMILIES.iter().flat_map(move |family| {
+        let first_seed = start + family.first_seed;
+        let seeds = first_seed..first_seed + family.number;
         seeds.map(|seed| Run {
             name: family.name,
             seed,

@@ -2,13 +2,15 @@
 //! this package's own, by calling it.
 //!
 //! It is built with BRANMUSLIN_ARCHIVE set to the archive's whole path. It ends
-//! with status 0 and a line for each function, with 1 at the first
-//! disagreement, or if an answer that a function can give was hardly met.
+//! with status 0 and lines that count what was met, with 1 at the first
+//! disagreement, or if an answer that a function can give, a situation of the
+//! lanes or a ground against a state was hardly met.
 
 use std::process::ExitCode;
 
 #[cfg(archive)]
 mod archive {
+    use second::calls::structs::{AnswerNumbers, ChangeNumbers, SettingsNumbers, StateNumbers};
     use second::calls::{Library, PacketNumbers, RecordNumbers};
 
     extern "C" {
@@ -65,6 +67,38 @@ mod archive {
             records: *mut usize,
             index: *mut usize,
         ) -> u8;
+
+        fn branmuslin_fresh_start() -> StateNumbers;
+
+        fn branmuslin_is_sound(state: StateNumbers) -> u8;
+
+        fn branmuslin_open_lane(
+            state: StateNumbers,
+            lane: usize,
+            settings: SettingsNumbers,
+            pool: *const u8,
+            pool_length: usize,
+        ) -> ChangeNumbers;
+
+        fn branmuslin_take_packet(
+            state: StateNumbers,
+            lane: usize,
+            packet: *const u8,
+            packet_length: usize,
+            pool: *mut u8,
+            pool_length: usize,
+            output: *mut u8,
+            output_length: usize,
+        ) -> AnswerNumbers;
+
+        fn branmuslin_close_lane(
+            state: StateNumbers,
+            lane: usize,
+            pool: *const u8,
+            pool_length: usize,
+            output: *mut u8,
+            output_length: usize,
+        ) -> ChangeNumbers;
     }
 
     pub const LIBRARY: Library = Library {
@@ -74,6 +108,11 @@ mod archive {
         write_record: branmuslin_write_record,
         read_record: branmuslin_read_record,
         read_file: branmuslin_read_record_file,
+        fresh_start: branmuslin_fresh_start,
+        is_sound: branmuslin_is_sound,
+        open_lane: branmuslin_open_lane,
+        take_packet: branmuslin_take_packet,
+        close_lane: branmuslin_close_lane,
     };
 }
 

@@ -56,11 +56,20 @@ impl<'a> Checker<'a> {
         }
     }
 
+    pub fn library(&self) -> &'a Library {
+        self.library
+    }
+
+    /// Counts one more call, and gives its number.
+    pub fn count_call(&mut self) -> usize {
+        self.calls += 1;
+        self.calls
+    }
+
     /// The memory after the call if 0 was returned, nothing after a refusal;
     /// or how the call differed from what was expected.
     pub fn check<C: Call>(&mut self, call: &C) -> Result<Option<Memory>, String> {
-        self.calls += 1;
-        let mut memory = Memory::new(self.calls, &call.pieces());
+        let mut memory = Memory::new(self.count_call(), &call.pieces());
         let mut expected = memory.clone();
         let should = call.expect(&mut expected);
         let returned = call.make(self.library, &mut memory);

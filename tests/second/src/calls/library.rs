@@ -4,6 +4,8 @@
 //! functions that are right or wrong, and only the program `calls` needs an
 //! archive to link with.
 
+use super::structs::{AnswerNumbers, ChangeNumbers, SettingsNumbers, StateNumbers};
+
 /// What reading a packet tells, one number after another: version; type,
 /// secondary, apid, flags, count; protocol, user, extension; offset, length.
 pub type PacketNumbers = [u32; 11];
@@ -43,6 +45,30 @@ pub type ReadRecord = unsafe extern "C" fn(*const u8, usize, *mut RecordNumbers)
 /// Octets with their length, then the number of records and the index.
 pub type ReadFile = unsafe extern "C" fn(*const u8, usize, *mut usize, *mut usize) -> u8;
 
+pub type FreshStart = unsafe extern "C" fn() -> StateNumbers;
+
+pub type IsSound = unsafe extern "C" fn(StateNumbers) -> u8;
+
+/// State, lane and settings; the pool with its length.
+pub type OpenLane =
+    unsafe extern "C" fn(StateNumbers, usize, SettingsNumbers, *const u8, usize) -> ChangeNumbers;
+
+/// State and lane; packet, pool and output, each with its length.
+pub type TakePacket = unsafe extern "C" fn(
+    StateNumbers,
+    usize,
+    *const u8,
+    usize,
+    *mut u8,
+    usize,
+    *mut u8,
+    usize,
+) -> AnswerNumbers;
+
+/// State and lane; pool and output, each with its length.
+pub type CloseLane =
+    unsafe extern "C" fn(StateNumbers, usize, *const u8, usize, *mut u8, usize) -> ChangeNumbers;
+
 #[derive(Clone, Copy)]
 pub struct Library {
     pub read_packet: ReadPacket,
@@ -51,4 +77,9 @@ pub struct Library {
     pub write_record: WriteRecord,
     pub read_record: ReadRecord,
     pub read_file: ReadFile,
+    pub fresh_start: FreshStart,
+    pub is_sound: IsSound,
+    pub open_lane: OpenLane,
+    pub take_packet: TakePacket,
+    pub close_lane: CloseLane,
 }

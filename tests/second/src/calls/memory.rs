@@ -63,7 +63,11 @@ impl Memory {
         // The whole packet fits a guard, so that a function which writes it in
         // spite of a short output is found out before it does harm.
         let longest = pieces.iter().map(Piece::octets).max().unwrap_or(0);
-        let guard = LEAST_GUARD + longest;
+        Memory::with_guards(call, pieces, LEAST_GUARD + longest)
+    }
+
+    /// With at least so many guard octets before, between and after the pieces.
+    pub fn with_guards(call: usize, pieces: &[Piece<'_>], guard: usize) -> Self {
         let mut places = Vec::new();
         // From call to call the octets begin at other places in a cell.
         let mut end = guard + call % CELL;
@@ -120,6 +124,13 @@ impl Memory {
     /// Puts these octets, which are all of the piece.
     pub fn put(&mut self, name: &str, octets: &[u8]) {
         self.piece_mut(name).copy_from_slice(octets);
+    }
+
+    /// Two pieces at once, the first of which lies before the second.
+    pub fn two_mut(&mut self, first: &str, second: &str) -> (&mut [u8], &mut [u8]) {
+        let (first, second) = (self.place(first), self.place(second));
+        let (front, rest) = self.octets_mut().split_at_mut(second.start);
+        (&mut front[first], &mut rest[..second.len()])
     }
 
     pub fn put_size(&mut self, name: &str, size: usize) {

@@ -3,7 +3,10 @@
 
 use super::functions::answered;
 use super::functions::read_packet::told;
+use super::lanes::call::{by_value, Deed};
+use super::lanes::sound;
 use super::library::{Library, PacketNumbers, RecordNumbers};
+use super::structs::{AnswerNumbers, ChangeNumbers, SettingsNumbers, StateNumbers};
 use crate::forge::SpaceHead;
 use crate::reader::read;
 use crate::record::{self, FileRefusal, Record};
@@ -18,6 +21,11 @@ pub fn library() -> Library {
         write_record,
         read_record,
         read_file,
+        fresh_start,
+        is_sound,
+        open_lane,
+        take_packet,
+        close_lane,
     }
 }
 
@@ -103,4 +111,54 @@ pub unsafe extern "C" fn read_file(
         Err(FileRefusal::NotRecords) => {}
     }
     answer.map_or_else(|refusal| refusal.number(), |_| 0)
+}
+
+pub unsafe extern "C" fn fresh_start() -> StateNumbers {
+    StateNumbers::FRESH
+}
+
+pub unsafe extern "C" fn is_sound(state: StateNumbers) -> u8 {
+    u8::from(sound::is_sound(&state))
+}
+
+pub unsafe extern "C" fn open_lane(
+    state: StateNumbers,
+    lane: usize,
+    settings: SettingsNumbers,
+    pool: *const u8,
+    pool_length: usize,
+) -> ChangeNumbers {
+    let deed = Deed::Open(settings.into());
+    // The pool is lent to be read, and a copy can't be written in its place.
+    let mut pool = slice::from_raw_parts(pool, pool_length).to_vec();
+    by_value(&state, (lane, &deed), (&mut pool, &mut [])).into()
+}
+
+pub unsafe extern "C" fn take_packet(
+    state: StateNumbers,
+    lane: usize,
+    packet: *const u8,
+    packet_length: usize,
+    pool: *mut u8,
+    pool_length: usize,
+    output: *mut u8,
+    room: usize,
+) -> AnswerNumbers {
+    let deed = Deed::Packet(slice::from_raw_parts(packet, packet_length));
+    let pool = slice::from_raw_parts_mut(pool, pool_length);
+    let output = slice::from_raw_parts_mut(output, room);
+    by_value(&state, (lane, &deed), (pool, output))
+}
+
+pub unsafe extern "C" fn close_lane(
+    state: StateNumbers,
+    lane: usize,
+    pool: *const u8,
+    pool_length: usize,
+    output: *mut u8,
+    room: usize,
+) -> ChangeNumbers {
+    let mut pool = slice::from_raw_parts(pool, pool_length).to_vec();
+    let output = slice::from_raw_parts_mut(output, room);
+    by_value(&state, (lane, &Deed::Close), (&mut pool, output)).into()
 }

@@ -1,5 +1,7 @@
 //! Wrong versions of the functions, each of which the comparison must find.
 
+mod lanes;
+
 use super::checker::Checker;
 use super::library::{Library, PacketNumbers, RecordNumbers};
 use super::{

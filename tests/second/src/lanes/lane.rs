@@ -45,27 +45,77 @@ pub struct Accepted {
     pub unit: bool,
 }
 
+/// The packets that a lane's list doesn't name one by one, and of which only
+/// these sums are known.
+#[derive(Debug, Clone, Copy, Default, PartialEq, Eq)]
+pub struct Past {
+    pub units: u32,
+    pub packets: u32,
+    pub missing: u32,
+    pub broken: u32,
+    /// The last one's count, if there were any.
+    pub last: u32,
+}
+
 #[derive(Debug)]
 pub struct Lane {
     pub settings: Settings,
-    /// Every accepted packet in turn: the tallies are counted from these, so
-    /// there is no tally that could fall out of step.
-    pub accepted: Vec<Accepted>,
+    /// Nothing, unless the lane was taken over from elsewhere.
+    past: Past,
+    /// Every accepted packet since in turn: the tallies are counted from these,
+    /// so there is no tally that could fall out of step.
+    accepted: Vec<Accepted>,
     pub group: Option<Group>,
 }
 
 impl Lane {
     pub fn new(settings: Settings) -> Self {
+        Lane::taken_over(settings, Past::default(), None)
+    }
+
+    pub fn taken_over(settings: Settings, past: Past, group: Option<Group>) -> Self {
         Lane {
             settings,
+            past,
             accepted: Vec::new(),
-            group: None,
+            group,
         }
+    }
+
+    pub fn accept(&mut self, packet: Accepted) {
+        self.accepted.push(packet);
+    }
+
+    pub fn packets(&self) -> u32 {
+        self.past.packets + self.accepted.len() as u32
     }
 
     /// The count of the last accepted packet, if there is one.
     pub fn last(&self) -> Option<u32> {
-        self.accepted.last().map(|accepted| accepted.count)
+        let before = (self.past.packets > 0).then_some(self.past.last);
+        let listed = self.accepted.last().map(|accepted| accepted.count);
+        listed.or(before)
+    }
+
+    /// All accepted packets as sums.
+    pub fn past(&self) -> Past {
+        let units = self.accepted.iter().filter(|packet| packet.unit).count();
+        let gave_up = self.accepted.iter().filter(|packet| packet.gave_up).count();
+        let missing: u32 = self.accepted.iter().map(|packet| packet.missing).sum();
+        Past {
+            units: self.past.units + units as u32,
+            packets: self.packets(),
+            missing: self.past.missing + missing,
+            broken: self.past.broken + gave_up as u32,
+            last: self.last().unwrap_or(self.past.last),
+        }
+    }
+
+    /// Keeps only the sums. A run that asks for them after each of very many
+    /// packets would else count a long list over and over.
+    pub fn sum_up(&mut self) {
+        self.past = self.past();
+        self.accepted.clear();
     }
 
     /// How many packets are missing between the last accepted one and this one.
@@ -88,12 +138,9 @@ impl Lane {
 
     /// The record if the lane were closed now, when an open group breaks too.
     pub fn credit(&self) -> Record {
-        let units = self.accepted.iter().filter(|packet| packet.unit).count();
-        let gave_up = self.accepted.iter().filter(|packet| packet.gave_up).count();
-        let broken = gave_up + usize::from(self.group.is_some());
-        let missing: u32 = self.accepted.iter().map(|packet| packet.missing).sum();
-        let packets = self.accepted.len() as u32;
-        let tallies = [units as u32, packets, missing, broken as u32];
+        let past = self.past();
+        let broken = past.broken + u32::from(self.group.is_some());
+        let tallies = [past.units, past.packets, past.missing, broken];
         Record::new(self.settings.station, self.settings.apid, tallies)
     }
 }
@@ -104,13 +151,17 @@ mod tests {
 
     fn missing(last: u32, count: u32) -> u32 {
         let mut lane = Lane::new(Settings::default());
-        lane.accepted.push(Accepted {
-            count: last,
+        lane.accept(packet(last));
+        lane.missing_before(count)
+    }
+
+    fn packet(count: u32) -> Accepted {
+        Accepted {
+            count,
             missing: 0,
             gave_up: false,
             unit: true,
-        });
-        lane.missing_before(count)
+        }
     }
 
     #[test]
@@ -121,6 +172,40 @@ mod tests {
         assert_eq!(missing(5, 4), 16_382);
         assert_eq!(missing(5, 6), 0);
         assert_eq!(Lane::new(Settings::default()).missing_before(9), 0);
+    }
+
+    #[test]
+    fn sums_and_list_together() {
+        let past = Past {
+            units: 3,
+            packets: 5,
+            missing: 70,
+            broken: 1,
+            last: 9,
+        };
+        let mut lane = Lane::taken_over(Settings::default(), past, None);
+        assert_eq!((lane.past(), lane.last()), (past, Some(9)));
+        lane.accept(Accepted {
+            missing: 4,
+            gave_up: true,
+            ..packet(14)
+        });
+        let together = [4, 6, 74, 2];
+        assert_eq!(lane.credit(), Record::new(0, 0, together));
+        lane.sum_up();
+        assert_eq!(lane.credit(), Record::new(0, 0, together));
+        assert_eq!(lane.last(), Some(14));
+    }
+
+    #[test]
+    fn a_last_count_without_packets_is_none() {
+        let last = Past {
+            last: 9,
+            ..Past::default()
+        };
+        let lane = Lane::taken_over(Settings::default(), last, None);
+        assert_eq!((lane.last(), lane.missing_before(10)), (None, 0));
+        assert_eq!(lane.past(), last);
     }
 
     #[test]

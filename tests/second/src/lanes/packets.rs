@@ -92,7 +92,7 @@ impl Lanes {
         }
         let outcome = Outcome::of(open, &packet, user_data);
         first_ground(&[
-            (18, open.accepted.len() >= MOST_PACKETS as usize),
+            (18, open.packets() >= MOST_PACKETS),
             (19, !self.has_room(open, outcome.blocks())),
             (20, outcome.output_octets() > output.len()),
         ])?;
@@ -126,7 +126,7 @@ impl Lanes {
     /// so that its blocks are free before others are taken.
     fn note(&mut self, lane: u8, count: u32, outcome: &Outcome) {
         let Step { missing, gave_up } = outcome.step;
-        self.open_lane(lane).accepted.push(Accepted {
+        self.open_lane(lane).accept(Accepted {
             count,
             missing,
             gave_up,

@@ -57,17 +57,37 @@ impl Met {
         self.times.get(thing).copied().unwrap_or(0)
     }
 
-    /// A line for each thing that should be met, or what was met too seldom.
-    pub fn table(&self) -> Result<String, String> {
-        let things = expected();
+    /// Begins another run, where no file is counted.
+    pub fn next_run(&mut self) {
+        self.files += 1;
+        self.past = Past::default();
+    }
+
+    /// How many things the calls met often enough, whatever their files were;
+    /// or what they met too seldom.
+    pub fn by_calls(&self) -> Result<usize, String> {
+        let mut things = expected();
+        things.retain(|(thing, _)| !thing.starts_with("file "));
+        self.none_seldom(&things)?;
+        Ok(things.len())
+    }
+
+    fn none_seldom(&self, things: &[(String, usize)]) -> Result<(), String> {
         let seldom: String = things
             .iter()
             .filter(|(thing, floor)| self.times(thing) < *floor)
             .map(|(thing, floor)| format!("met {} times of {floor}: {thing}\n", self.times(thing)))
             .collect();
-        if !seldom.is_empty() {
-            return Err(seldom);
+        match seldom.is_empty() {
+            true => Ok(()),
+            false => Err(seldom),
         }
+    }
+
+    /// A line for each thing that should be met, or what was met too seldom.
+    pub fn table(&self) -> Result<String, String> {
+        let things = expected();
+        self.none_seldom(&things)?;
         let line = |(thing, _): &(String, usize)| format!("{:>9}  {thing}\n", self.times(thing));
         let lines: String = things.iter().map(line).collect();
         let (files, calls) = (self.files, self.calls);

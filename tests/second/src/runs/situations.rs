@@ -209,7 +209,7 @@ impl<'a> Sent<'a> {
         let (Told::Stray(step) | Told::Held(step) | Told::Unit(step, ..)) = told else {
             return;
         };
-        let later = self.lane.accepted.len() > 1;
+        let later = self.lane.packets() > 1;
         let wraps = later && step.missing == 0 && self.packet.count == 0;
         met.add_if("packet: the count after 16383", wraps);
         met.add_if("packet: missing 16382", step.missing == 16_382);
