@@ -7,7 +7,7 @@ use Rattle.demands.specs.Demand1.{Permitted, EachEntry, EachFunction}
 use Rattle.demands.proofs.Promised.{promised}
 use Rattle.demands.proofs.EachEntry.{reads-packet, reads-at, writes-space, writes-encapsulation, reads-record, reads-record-file, writes-record}
 use Rattle.demands.proofs.EachEntry.{reads-packet-C, writes-space-C, writes-encapsulation-C, reads-record-C, reads-record-file-C, writes-record-C}
-use Rattle.demands.proofs.LaneEntries.{opens-lane, takes-packet, closes-lane}
+use Rattle.demands.proofs.LaneEntries.{opens-lane, takes-packet, takes-packet-C, closes-lane}
 use Rattle.demands.proofs.Keeps.{keeps}
 use Rattle.demands.proofs.Ends.{ends}
 use Rattle.demands.proofs.OneAnswer.{one-answers}
@@ -29,6 +29,9 @@ as-asked name.branmuslin-write-encapsulation = writes-encapsulation-C
 as-asked name.branmuslin-read-record = reads-record-C
 as-asked name.branmuslin-read-record-file = reads-record-file-C
 as-asked name.branmuslin-write-record = writes-record-C
+as-asked name.branmuslin-open-lane = opens-lane
+as-asked name.branmuslin-take-packet = takes-packet-C
+as-asked name.branmuslin-close-lane = closes-lane
 
 pub each-entry : EachEntry
 each-entry n = (as-asked n, promised n, ends (function (the-entry n)) (Permitted n) (keeps (the-entry n)) (promised n))

@@ -15,6 +15,9 @@ use Rattle.branmuslin.proofs.branmuslin_write_encapsulation.Met as branmuslinWr
 use Rattle.branmuslin.proofs.branmuslin_read_record.Met as branmuslinReadRecord
 use Rattle.branmuslin.proofs.branmuslin_read_record_file.Met as branmuslinReadRecordFile
 use Rattle.branmuslin.proofs.branmuslin_write_record.Met as branmuslinWriteRecord
+use Rattle.lanes.proofs.branmuslin_open_lane.Met as branmuslinOpenLane
+use Rattle.lanes.proofs.branmuslin_take_packet.Met as branmuslinTakePacket
+use Rattle.lanes.proofs.branmuslin_close_lane.Met as branmuslinCloseLane
 use Rattle.octets.proofs.octet_at.Met as octetAt
 use Rattle.octets.proofs.be16_at.Met as be16At
 use Rattle.octets.proofs.be32_at.Met as be32At
@@ -40,6 +43,8 @@ use Rattle.lane.proofs.is_fine.Met as isFine
 use Rattle.lane.proofs.plan_packet.Met as planPacket
 use Rattle.intake.proofs.fresh_start.Met as freshStart
 use Rattle.intake.proofs.is_sound.Met as isSound
+use Rattle.lanes.proofs.branmuslin_fresh_start.Met as branmuslinFreshStart
+use Rattle.lanes.proofs.branmuslin_is_sound.Met as branmuslinIsSound
 use Rattle.text.proofs.put.Met as putText
 use Rattle.text.proofs.put_decimal.Met as putDecimal
 use Rattle.text.proofs.put_numbers.Met as putNumbers
@@ -72,6 +77,9 @@ of-entry name.branmuslin-write-encapsulation M = branmuslinWriteEncapsulation.me
 of-entry name.branmuslin-read-record M = branmuslinReadRecord.met
 of-entry name.branmuslin-read-record-file M = branmuslinReadRecordFile.met
 of-entry name.branmuslin-write-record M = branmuslinWriteRecord.met
+of-entry name.branmuslin-open-lane M = branmuslinOpenLane.met
+of-entry name.branmuslin-take-packet M = branmuslinTakePacket.met
+of-entry name.branmuslin-close-lane M = branmuslinCloseLane.met
 
 pub keeps : (p : Public) → Keeps (function p)
 keeps (the-entry n) M = of-entry n M
@@ -100,6 +108,8 @@ keeps public.is-fine M = isFine.met
 keeps public.plan-packet M = planPacket.met
 keeps public.fresh-start M = freshStart.met
 keeps public.is-sound M = isSound.met
+keeps public.branmuslin-fresh-start M = branmuslinFreshStart.met
+keeps public.branmuslin-is-sound M = branmuslinIsSound.met
 keeps public.put M = putText.met
 keeps public.put-decimal M = putDecimal.met
 keeps public.put-numbers M = putNumbers.met

@@ -58,6 +58,10 @@ of-entry name.branmuslin-write-encapsulation κs a h r q v w e f =
 of-entry name.branmuslin-read-record κs a h r q v w e f = (alike (e .0) (f .0), λ i. (tt, (alike (e .1) (f .1) i, v .1 .1)))
 of-entry name.branmuslin-read-record-file κs a h r q v w e f = (alike (e .0) (f .0), λ i. (tt, (alike (e .1 .0) (f .1 .0) i, (alike (e .1 .1) (f .1 .1) i, v .1 .1 .1))))
 of-entry name.branmuslin-write-record κs a h r q v w e f = (alike (e .0) (f .0), λ i. (tt, (tt, (tt, (tt, (tt, (tt, (alike (e .1) (f .1) i, v .1 .1 .1 .1 .1 .1 .1))))))))
+of-entry name.branmuslin-open-lane κs a h r q v w e f = (alike e f, refl)
+of-entry name.branmuslin-take-packet κs a h r q v w e f =
+    (alike (e .0) (f .0), λ i. (tt, (tt, (tt, (alike (e .1 .0) (f .1 .0) i, (alike (e .1 .1) (f .1 .1) i, v .1 .1 .1 .1 .1))))))
+of-entry name.branmuslin-close-lane κs a h r q v w e f = (alike (e .0) (f .0), λ i. (tt, (tt, (tt, (alike (e .1) (f .1) i, v .1 .1 .1 .1)))))
 
 -- ---- all
 pub one-answers : (p : Public) → Fixed (function p)
@@ -91,6 +95,8 @@ one-answers public.is-fine = by-value (λ κs a h M 𝓤 H A mem run. refl) (λ 
 one-answers public.plan-packet = by-value (λ κs a h M 𝓤 H A mem run. refl) (λ κs a v w. refl)
 one-answers public.fresh-start = by-value (λ κs a h M 𝓤 H A mem run. refl) (λ κs a v w. refl)
 one-answers public.is-sound = by-value (λ κs a h M 𝓤 H A mem run. refl) (λ κs a v w. refl)
+one-answers public.branmuslin-fresh-start = by-value (λ κs a h M 𝓤 H A mem run. refl) (λ κs a v w. refl)
+one-answers public.branmuslin-is-sound = by-value (λ κs a h M 𝓤 H A mem run. refl) (λ κs a v w. refl)
 one-answers public.put = fixed (λ κs a h M 𝓤 H A mem run. two 𝓤) (λ κs a h r q v w e f. (alike (e .0) (f .0), λ i. (alike (e .1) (f .1) i, v .1)))
 one-answers public.put-decimal = fixed (λ κs a h M 𝓤 H A mem run. two 𝓤) (λ κs a h r q v w e f. (alike (e .0) (f .0), λ i. (alike (e .1) (f .1) i, v .1)))
 one-answers public.put-numbers = fixed (λ κs a h M 𝓤 H A mem run. two 𝓤) (λ κs a h r q v w e f. (alike (e .0) (f .0), λ i. (alike (e .1) (f .1) i, v .1)))

@@ -24,3 +24,6 @@ promised name.branmuslin-write-encapsulation κs a h M 𝓤 H A mem run = three 
 promised name.branmuslin-read-record κs a h M 𝓤 H A mem run = two 𝓤
 promised name.branmuslin-read-record-file κs a h M 𝓤 H A mem run = three 𝓤
 promised name.branmuslin-write-record κs a h M 𝓤 H A mem run = two 𝓤
+promised name.branmuslin-open-lane κs a h M 𝓤 H A mem run = refl
+promised name.branmuslin-take-packet κs a h M 𝓤 H A mem run = three 𝓤
+promised name.branmuslin-close-lane κs a h M 𝓤 H A mem run = two 𝓤

@@ -13,8 +13,9 @@ use Rattle.demands.specs.Runs.{Shaped}
 use Rattle.demands.specs.Contract.{Function, Lives, Inputs, Result, OfTypes, Fact, Promises, Ends, Determined}
 use Rattle.demands.specs.Functions.{Public, the-entry, function}
 use Rattle.demands.specs.Entry.{Entry, Demand1}
+use Rattle.demands.specs.Entries.{openLane, takePacket, closeLane}
 use Rattle.demands.specs.Exported as name
-use Rattle.demands.specs.Exported.{Name, entry}
+use Rattle.demands.specs.Exported.{Name, withoutState, entry}
 
 -- how what an entry is given, answers and may change stands in the code: in the inputs, in the result, and behind the references at the end
 pub record View (f : Function) (e : Entry) : Type 0 where
@@ -25,6 +26,29 @@ pub record View (f : Function) (e : Entry) : Type 0 where
 -- a state has eight lanes and 64 marks, as the lengths of its arrays say
 pub shaped : (s : State) (vs : List Val) → Is stateType.the-row s vs → Shaped s
 shaped s vs h = (sym (length-map (s .lanes) _) ∙ h .1 .1 .0 .1 .0 .1, sym (length-map (s .marks) _) ∙ h .1 .1 .1 .0 .1 .0 .1)
+
+-- the calls of a lane, which are given the same in Rattle and in C
+abbrev opening : View (function (the-entry name.open-lane)) openLane
+opening = record {
+  given = λ κs (s, (lane, (settings, (pool, e)))) h. record { state = s; lane = lane; settings = settings; pool = now pool };
+  answer = λ κs r s. r .refusal;
+  left = λ κs r s. r .state;
+}
+
+abbrev taking : View (function (the-entry name.take-packet)) takePacket
+taking = record {
+  given = λ κs (s, (lane, (octets, (pool, (out, e))))) h.
+      record { state = s; shaped = shaped s (h .0 .0) (h .1 .0); lane = lane; packet = now octets; pool = now pool; out = now out };
+  answer = λ κs r s. r .answer;
+  left = λ κs r (s, (lane, (octets, (pool, (out, e))))). (r .state, now pool, now out);
+}
+
+abbrev closing : View (function (the-entry name.close-lane)) closeLane
+closing = record {
+  given = λ κs (s, (lane, (pool, (out, e)))) h. record { state = s; lane = lane; pool = now pool; out = now out };
+  answer = λ κs r s. r .refusal;
+  left = λ κs r (s, (lane, (pool, (out, e)))). (r .state, now out);
+}
 
 abbrev pub view : (n : Name) → View (function (the-entry n)) (entry n)
 view name.read-packet = record { given = λ κs (s, e) h. now s; answer = λ κs r s. r; left = λ κs r s. tt }
@@ -43,22 +67,9 @@ view name.write-encapsulation = record {
 view name.read-record = record { given = λ κs (s, e) h. now s; answer = λ κs r s. r; left = λ κs r s. tt }
 view name.read-record-file = record { given = λ κs (s, e) h. now s; answer = λ κs r s. r; left = λ κs r s. tt }
 view name.write-record = record { given = λ κs (credit, (out, e)) h. record { credit = credit; out = now out }; answer = λ κs r s. r; left = λ κs r (credit, (out, e)). now out }
-view name.open-lane = record {
-  given = λ κs (s, (lane, (settings, (pool, e)))) h. record { state = s; lane = lane; settings = settings; pool = now pool };
-  answer = λ κs r s. r .refusal;
-  left = λ κs r s. r .state;
-}
-view name.take-packet = record {
-  given = λ κs (s, (lane, (octets, (pool, (out, e))))) h.
-      record { state = s; shaped = shaped s (h .0 .0) (h .1 .0); lane = lane; packet = now octets; pool = now pool; out = now out };
-  answer = λ κs r s. r .answer;
-  left = λ κs r (s, (lane, (octets, (pool, (out, e))))). (r .state, now pool, now out);
-}
-view name.close-lane = record {
-  given = λ κs (s, (lane, (pool, (out, e)))) h. record { state = s; lane = lane; pool = now pool; out = now out };
-  answer = λ κs r s. r .refusal;
-  left = λ κs r (s, (lane, (pool, (out, e)))). (r .state, now out);
-}
+view name.open-lane = opening
+view name.take-packet = taking
+view name.close-lane = closing
 view name.branmuslin-read-packet = record {
   given = λ κs (octets, (numbers, e)) h. record { octets = now octets; numbers = now numbers };
   answer = λ κs r s. r;
@@ -92,6 +103,13 @@ view name.branmuslin-write-record = record {
   answer = λ κs r s. r;
   left = λ κs r (station, (apid, (units, (packets, (missing, (broken, (out, e))))))). now out;
 }
+view name.branmuslin-open-lane = record { given = opening .given; answer = opening .answer; left = opening .left }
+view name.branmuslin-take-packet = record {
+  given = taking .given;
+  answer = λ κs r s. withoutState r;
+  left = λ κs r (s, (lane, (octets, (pool, (out, e))))). (r .state, now pool, now out);
+}
+view name.branmuslin-close-lane = record { given = closing .given; answer = closing .answer; left = closing .left }
 
 -- what an entry's promise permits, in the code's words
 abbrev pub Permitted : (n : Name) → Fact (function (the-entry n))

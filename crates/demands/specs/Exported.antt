@@ -1,7 +1,9 @@
--- The entries that a C program calls, and every public entry by its name. Each returns the refusal's number, or 0, and tells the rest behind pointers that
--- were lent; the orders are those of the functions that it stands on.
+-- The entries that a C program calls, and every public entry by its name. Each of a reader or writer returns the refusal's number, or 0, and tells the rest
+-- behind pointers that were lent; opening and closing a lane are as in Rattle, and a packet is answered in numbers. The orders are those of the functions that
+-- each stands on.
 use Prim.Native.Nat.{ℕ}
 use mathlib.Core.Path.{_≡_}
+use mathlib.Core.Bool.{Bool}
 use mathlib.Core.List.{List}
 use lib.ListN.{length}
 use Rattle.packet.specs.Reading.{readingTests, refusal}
@@ -11,8 +13,11 @@ use Rattle.record.specs.Reading.{recordTests, recordRefusal, fileRefusal}
 use Rattle.record.specs.Writing.{writingRefusal}
 use Rattle.record.specs.Told.{afterOf}
 use Rattle.branmuslin.specs.Lent.{packetAfter, spaceWrittenAfter, encapWrittenAfter, recordNumbersAfter, recordsAfter, indexAfter}
+use Rattle.intake.specs.After.{taking, takingPool, takingOut}
+use Rattle.lanes.specs.declared.Numbered.{Numbered}
+use Rattle.lanes.specs.Numbers.{numbered}
 use Rattle.demands.specs.Entry.{Entry}
-use Rattle.demands.specs.Entries.{SpacePacket, EncapsulationPacket, RecordGiven, fileOrder, creditTests}
+use Rattle.demands.specs.Entries.{SpacePacket, EncapsulationPacket, RecordGiven, Taking, fileOrder, creditTests}
 use Rattle.demands.specs.Entries.{readPacket, packetAt, writeSpace, writeEncapsulation, readRecord, readRecordFile, writeRecord, openLane, takePacket, closeLane}
 
 -- octets, and the numbers of a struct that is lent
@@ -106,6 +111,32 @@ readRecordFileC = record {
   Permits = λ g a records. (a .0 ≡ fileRefusal (g .octets)) × ((records ≡ recordsAfter (g .octets) (g .records)) × (a .1 ≡ indexAfter (g .octets) (g .index)));
 }
 
+-- what a packet is answered, without the state
+pub record InNumbers : Type 0 where
+  pub refusal : ℕ
+  pub kind : ℕ
+  pub broke : Bool
+  pub missing : ℕ
+  pub octets : ℕ
+
+abbrev pub withoutState : Numbered → InNumbers
+withoutState r = record { refusal = r .refusal; kind = r .kind; broke = r .broke; missing = r .missing; octets = r .octets }
+
+abbrev pub takePacketC : Entry
+takePacketC = record {
+  Given = Taking;
+  Answer = InNumbers;
+  Lent = takePacket .Lent;
+  before = takePacket .before;
+  number = λ a. a .refusal;
+  tests = takePacket .tests;
+  Permits = λ g a l.
+      (_≡_ {A = Numbered} (record { refusal = a .refusal; kind = a .kind; broke = a .broke; missing = a .missing; octets = a .octets; state = l .0 })
+      (numbered (taking (g .state) (g .lane) (g .packet) (length (g .pool)) (length (g .out)))))
+      × ((l .1 ≡ takingPool (g .state) (g .lane) (g .packet) (length (g .out)) (g .pool))
+      × (l .2 ≡ takingOut (g .state) (g .lane) (g .packet) (g .pool) (g .out)));
+}
+
 -- ---- all public entries
 pub data Name : Type 0 where
   read-packet : Name
@@ -124,6 +155,9 @@ pub data Name : Type 0 where
   branmuslin-read-record : Name
   branmuslin-read-record-file : Name
   branmuslin-write-record : Name
+  branmuslin-open-lane : Name
+  branmuslin-take-packet : Name
+  branmuslin-close-lane : Name
 
 abbrev pub entry : Name → Entry
 entry read-packet = readPacket
@@ -142,3 +176,6 @@ entry branmuslin-write-encapsulation = writeEncapsulationC
 entry branmuslin-read-record = readRecordC
 entry branmuslin-read-record-file = readRecordFileC
 entry branmuslin-write-record = writeRecordC
+entry branmuslin-open-lane = openLane
+entry branmuslin-take-packet = takePacketC
+entry branmuslin-close-lane = closeLane

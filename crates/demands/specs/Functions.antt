@@ -17,6 +17,9 @@ use Rattle.branmuslin.proofs.branmuslin_write_encapsulation as branmuslinWriteE
 use Rattle.branmuslin.proofs.branmuslin_read_record as branmuslinReadRecord
 use Rattle.branmuslin.proofs.branmuslin_read_record_file as branmuslinReadRecordFile
 use Rattle.branmuslin.proofs.branmuslin_write_record as branmuslinWriteRecord
+use Rattle.lanes.proofs.branmuslin_open_lane as branmuslinOpenLane
+use Rattle.lanes.proofs.branmuslin_take_packet as branmuslinTakePacket
+use Rattle.lanes.proofs.branmuslin_close_lane as branmuslinCloseLane
 use Rattle.octets.proofs.octet_at as octetAt
 use Rattle.octets.proofs.be16_at as be16At
 use Rattle.octets.proofs.be32_at as be32At
@@ -42,6 +45,8 @@ use Rattle.lane.proofs.is_fine as isFine
 use Rattle.lane.proofs.plan_packet as planPacket
 use Rattle.intake.proofs.fresh_start as freshStart
 use Rattle.intake.proofs.is_sound as isSound
+use Rattle.lanes.proofs.branmuslin_fresh_start as branmuslinFreshStart
+use Rattle.lanes.proofs.branmuslin_is_sound as branmuslinIsSound
 use Rattle.text.proofs.put as putText
 use Rattle.text.proofs.put_decimal as putDecimal
 use Rattle.text.proofs.put_numbers as putNumbers
@@ -82,6 +87,8 @@ pub data Public : Type 0 where
   plan-packet : Public
   fresh-start : Public
   is-sound : Public
+  branmuslin-fresh-start : Public
+  branmuslin-is-sound : Public
   put : Public
   put-decimal : Public
   put-numbers : Public
@@ -109,6 +116,9 @@ named name.branmuslin-write-encapsulation = valued branmuslinWriteEncapsulation.
 named name.branmuslin-read-record = valued branmuslinReadRecord.ended (λ M. branmuslinReadRecord.clauses) branmuslinReadRecord.Symbol.routine
 named name.branmuslin-read-record-file = valued branmuslinReadRecordFile.ended (λ M. branmuslinReadRecordFile.clauses) branmuslinReadRecordFile.Symbol.routine
 named name.branmuslin-write-record = valued branmuslinWriteRecord.ended (λ M. branmuslinWriteRecord.clauses) branmuslinWriteRecord.Symbol.routine
+named name.branmuslin-open-lane = valued branmuslinOpenLane.ended (λ M. branmuslinOpenLane.clauses) branmuslinOpenLane.Symbol.routine
+named name.branmuslin-take-packet = valued branmuslinTakePacket.ended (λ M. branmuslinTakePacket.clauses) branmuslinTakePacket.Symbol.routine
+named name.branmuslin-close-lane = valued branmuslinCloseLane.ended (λ M. branmuslinCloseLane.clauses) branmuslinCloseLane.Symbol.routine
 
 -- `data-of` and `written` give back a part of a slice that they were lent: where it lies, and its octets
 abbrev pub function : Public → Function
@@ -139,6 +149,8 @@ function is-fine = valued isFine.ended (λ M. isFine.clauses) isFine.Symbol.rout
 function plan-packet = valued planPacket.ended (λ M. planPacket.clauses) planPacket.Symbol.routine
 function fresh-start = valued freshStart.ended (λ M. freshStart.clauses) freshStart.Symbol.routine
 function is-sound = valued isSound.ended (λ M. isSound.clauses) isSound.Symbol.routine
+function branmuslin-fresh-start = valued branmuslinFreshStart.ended (λ M. branmuslinFreshStart.clauses) branmuslinFreshStart.Symbol.routine
+function branmuslin-is-sound = valued branmuslinIsSound.ended (λ M. branmuslinIsSound.clauses) branmuslinIsSound.Symbol.routine
 function put = valued putText.ended (λ M. putText.clauses) putText.Symbol.routine
 function put-decimal = valued putDecimal.ended (λ M. putDecimal.clauses) putDecimal.Symbol.routine
 function put-numbers = valued putNumbers.ended (λ M. putNumbers.clauses) putNumbers.Symbol.routine

@@ -4,7 +4,7 @@ ghost use mathlib.Core.Path.{_≡_};
 ghost use lib.ListN.{length};
 ghost use Rattle.intake.specs.State.{freshState, sound};
 ghost use Rattle.intake.specs.After.{opening, closing, closingOut, taking, takingPool, takingOut};
-ghost use Rattle.lanes.specs.Numbers.{numbered};
+ghost use Rattle.lanes.specs.Numbers.{telling, numbered};
 use intake::Answer;
 use intake::Answered;
 use intake::Changed;
@@ -51,57 +51,75 @@ pub extern "C" fn branmuslin_open_lane(
     intake::open_lane(state, lane, settings, pool)
 }
 
-// An answer in numbers.
-fn in_numbers(a: Answered) -> Numbered
-    ensures { λ r. ⌜ r ≡ numbered a ⌝ }
+// The numbers of an answer, without the state.
+struct Numbers {
+    refusal: u8,
+    kind: u8,
+    broke: bool,
+    missing: u16,
+    octets: usize,
+}
+
+fn numbers_of(answer: Answer) -> Numbers
+    ensures { λ r. ⌜ r ≡ telling answer ⌝ }
 {
-    let state = a.state;
-    let answer = a.answer;
     match answer {
-        Answer::Refused(refusal) => Numbered {
+        Answer::Refused(refusal) => Numbers {
             refusal,
             kind: 0,
             broke: false,
             missing: 0,
             octets: 0,
-            state,
         },
-        Answer::Repeat => Numbered {
+        Answer::Repeat => Numbers {
             refusal: 0,
             kind: 1,
             broke: false,
             missing: 0,
             octets: 0,
-            state,
         },
-        Answer::Stray { missing, given_up } => Numbered {
+        Answer::Stray { missing, given_up } => Numbers {
             refusal: 0,
             kind: 2,
             broke: given_up,
             missing,
             octets: 0,
-            state,
         },
-        Answer::Held { missing, given_up } => Numbered {
+        Answer::Held { missing, given_up } => Numbers {
             refusal: 0,
             kind: 3,
             broke: given_up,
             missing,
             octets: 0,
-            state,
         },
         Answer::Unit {
             octets,
             missing,
             given_up,
-        } => Numbered {
+        } => Numbers {
             refusal: 0,
             kind: 4,
             broke: given_up,
             missing,
             octets,
-            state,
         },
+    }
+}
+
+// An answer in numbers. The state is put beside them once, since it is large.
+fn in_numbers(a: Answered) -> Numbered
+    ensures { λ r. ⌜ r ≡ numbered a ⌝ }
+{
+    let answer = a.answer;
+    let n = numbers_of(answer);
+    let state = a.state;
+    Numbered {
+        refusal: n.refusal,
+        kind: n.kind,
+        broke: n.broke,
+        missing: n.missing,
+        octets: n.octets,
+        state,
     }
 }
 
