@@ -130,32 +130,48 @@ fine-is l h =
     not-not true z = refl
     not-not false z = absurd (true≢false z)
 
--- ---- a closed lane that has taken nothing
-abbrev blank : Lane → Bool
-blank l =
-    leb (l .settings .apid) 2046 && eqb (l .units) 0 && eqb (l .packets) 0 && eqb (l .missing) 0 && eqb (l .broken) 0 && leb (l .last) 16383 && not (l .grouped) && eqb (l .octets) 0
+-- ---- a closed lane that has taken nothing, and has no group
+module _ (l : Lane) where
+  abbrev b1 : Bool
+  b1 = leb (l .settings .apid) 2046 && eqb (l .units) 0
 
-pub blank-fine : (l : Lane) → l .opened ≡ false → blank l ≡ true → fine l ≡ true
-unfolding blocksFor one
-blank-fine l shut h =
-    let a1 = both (leb (l .settings .apid) 2046 && eqb (l .units) 0 && eqb (l .packets) 0 && eqb (l .missing) 0 && eqb (l .broken) 0 && leb (l .last) 16383 && not (l .grouped)) (eqb (l .octets) 0) h in
-    let a2 = both (leb (l .settings .apid) 2046 && eqb (l .units) 0 && eqb (l .packets) 0 && eqb (l .missing) 0 && eqb (l .broken) 0 && leb (l .last) 16383) (not (l .grouped)) (a1 .0) in
-    let a3 = both (leb (l .settings .apid) 2046 && eqb (l .units) 0 && eqb (l .packets) 0 && eqb (l .missing) 0 && eqb (l .broken) 0) (leb (l .last) 16383) (a2 .0) in
-    let a4 = both (leb (l .settings .apid) 2046 && eqb (l .units) 0 && eqb (l .packets) 0 && eqb (l .missing) 0) (eqb (l .broken) 0) (a3 .0) in
-    let a5 = both (leb (l .settings .apid) 2046 && eqb (l .units) 0 && eqb (l .packets) 0) (eqb (l .missing) 0) (a4 .0) in
-    let a6 = both (leb (l .settings .apid) 2046 && eqb (l .units) 0) (eqb (l .packets) 0) (a5 .0) in
-    let a7 = both (leb (l .settings .apid) 2046) (eqb (l .units) 0) (a6 .0) in
-    let none : l .octets ≡ 0 = eqb-true _ _ (a1 .1) in
-    let off : l .grouped ≡ false = not-false _ (a2 .1) in
-    let empty : l .packets ≡ 0 = eqb-true _ _ (a6 .1) in
-    let units : l .units ≡ 0 = eqb-true _ _ (a7 .1) in
-    let missing : l .missing ≡ 0 = eqb-true _ _ (a5 .1) in
-    let broken : l .broken ≡ 0 = eqb-true _ _ (a4 .1) in
-    fine-is l (record {
-      legal = λ o. absurd (true≢false (sym o ∙ shut));
-      within = rw none (omega arith);
-      nothing = λ o. none;
-      shut = λ o. off;
-      last = leb-true _ _ (a3 .1);
-      tallies = record { apid = leb-true _ _ (a7 .0); packets = rw empty (omega arith); units = rw (units, broken, off, empty) (omega arith); missing = rw (missing, empty) (omega arith) };
-    })
+  abbrev b2 : Bool
+  b2 = b1 && eqb (l .packets) 0
+
+  abbrev b3 : Bool
+  b3 = b2 && eqb (l .missing) 0
+
+  abbrev b4 : Bool
+  b4 = b3 && eqb (l .broken) 0
+
+  abbrev b5 : Bool
+  b5 = b4 && leb (l .last) 16383
+
+  pub blank-fine : l .opened || l .grouped ≡ false → b5 && eqb (l .octets) 0 ≡ true → fine l ≡ true
+  unfolding blocksFor one
+  blank-fine shut h =
+      let off = neither (l .opened) (l .grouped) shut in
+      let h5 = both b5 (eqb (l .octets) 0) h in
+      let h4 = both b4 (leb (l .last) 16383) (h5 .0) in
+      let h3 = both b3 (eqb (l .broken) 0) (h4 .0) in
+      let h2 = both b2 (eqb (l .missing) 0) (h3 .0) in
+      let h1 = both b1 (eqb (l .packets) 0) (h2 .0) in
+      let h0 = both (leb (l .settings .apid) 2046) (eqb (l .units) 0) (h1 .0) in
+      let none : l .octets ≡ 0 = eqb-true _ _ (h5 .1) in
+      let empty : l .packets ≡ 0 = eqb-true _ _ (h1 .1) in
+      let units : l .units ≡ 0 = eqb-true _ _ (h0 .1) in
+      let missing : l .missing ≡ 0 = eqb-true _ _ (h2 .1) in
+      let broken : l .broken ≡ 0 = eqb-true _ _ (h3 .1) in
+      fine-is l (record {
+        legal = λ o. absurd (true≢false (sym o ∙ off .0));
+        within = rw none (omega arith);
+        nothing = λ o. none;
+        shut = λ o. off .1;
+        last = leb-true _ _ (h4 .1);
+        tallies = record {
+          apid = leb-true _ _ (h0 .0);
+          packets = rw empty (omega arith);
+          units = rw (units, broken, off .1, empty) (omega arith);
+          missing = rw (missing, empty) (omega arith);
+        };
+      })

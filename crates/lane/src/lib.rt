@@ -149,7 +149,7 @@ fn are_tallies_possible(l: Lane) -> bool
 fn is_blank(l: Lane) -> bool
     ensures { λ r. ⌜ (r ≡ true → fine l ≡ true) ⌝ }
 {
-    if l.opened {
+    if l.opened | l.grouped {
         return false;
     }
     (l.settings.apid <= 2046)
@@ -158,7 +158,6 @@ fn is_blank(l: Lane) -> bool
         & (l.missing == 0)
         & (l.broken == 0)
         & (l.last <= 16383)
-        & !l.grouped
         & (l.octets == 0)
 }
 

@@ -9,7 +9,7 @@ returns : tie.Need-returns
 returns c e = absurd (true≢false (sym e))
 
 returns-2 : tie.Need-returns-2
-returns-2 c e = blank-fine (c .before .before .before .before .before .before .before .before .before .args .l) (c .before .before .before .before .before .before .before .before .if1 .left) e
+returns-2 c e = blank-fine (c .before .before .before .before .before .before .before .before .before .args .l) (c .before .before .before .before .before .before .before .if1 .left) e
 
 pub is-blank-spec : {M : Type 1} → statement M
 is-blank-spec = tie.close (tie.spec returns returns-2)
