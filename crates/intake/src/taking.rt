@@ -141,7 +141,7 @@ fn hold(
     ensures { λ _. ⌜ now (pool .exit) ≡ poolAfter marks lane l (Hold a joins n) (now (user .entry)) (now (pool .entry)) ⌝ }
 {
     let after = grow(marks, lane, l, joins, n);
-    store_octets(&after, lane as u8, pool, start_of(l.octets, joins), user);
+    store_octets(after, lane as u8, pool, start_of(l.octets, joins), user);
     Kept {
         lane: count_in(l, a, 0, true, n as u16),
         marks: after,
@@ -162,7 +162,7 @@ fn put_group(
     ensures { λ _. ⌜ now (out .exit) ≡ puts (now (out .entry)) 0 (groupOf marks lane l joins (now (pool .entry))) ⌝ }
 {
     if joins {
-        return gather_octets(&marks, lane as u8, pool, l.octets as usize, out);
+        return gather_octets(marks, lane as u8, pool, l.octets as usize, out);
     }
     0
 }

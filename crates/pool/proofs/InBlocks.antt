@@ -1,15 +1,16 @@
 -- What carries the octets that go in runs: within a block the next octet lies at the next place, so a run is one part of the pool.
-use Prim.Native.Nat.{ℕ, zero, suc, _+_, _-_, _/_, _%_, _≤_, _<_, min, zero-le}
+use Prim.Native.Nat.{ℕ, zero, suc, _+_, _-_, _*_, _/_, _%_, _≤_, _<_, min, zero-le}
 use mathlib.Core.Path.{_≡_, refl, sym, ap, _∙_}
 use mathlib.Core.List.{List, [], _∷_, _++_, append-nil, append-assoc}
 use native.Mathlib.Decide.{decLt}
 use native.Mathlib.Nat.{add-zero, zero-add, suc-add}
 use native.Mathlib.Omega.{arith}
-use lib.ListN.{length, set, take, drop, length-set, length-append, length-take, length-drop, take-append-drop, drop-of-length-le}
+use lib.ListN.{length, getD, set, take, drop, length-set, length-append, length-take, length-drop, take-append-drop, drop-of-length-le}
 use lib.Seq.{sets, sets-eq, set-out, length-take-le, take-nil, take-length, take-all, drop-drop}
 use Rattle.octets.specs.Output.{put, putIfFits}
 use Rattle.octets.proofs.Puts.{put-fits, not-put, Wrote, Fits, then-put}
-use Rattle.pool.specs.Blocks.{mark, find}
+use Rattle.pool.specs.Blocks.{mark, blocksFor, find}
+use Rattle.pool.specs.Lookup.{ListsLane}
 use Rattle.pool.specs.Octets.{place, stored, gathered}
 
 -- more than there are, told by how many there are
@@ -23,19 +24,12 @@ take-within n l =
 pub short : (n : ℕ) (l text : List ℕ) → text ≡ take n l → length text ≤ n
 short n l text e = rw (e, length-take n l) (omega arith)
 
--- a place past the end, told by the end: as a part that is taken, and as a text that is put
+-- a place past the end, told by the end
 drop-within : (p : ℕ) (l : List ℕ) → drop (min p (length l)) l ≡ drop p l
 drop-within p l =
     elim (decLt p (length l)) [
       | yes h ↦ let e : min p (length l) ≡ p = omega arith in rw e
       | no h ↦ let e : min p (length l) ≡ length l = omega arith in rw (e, drop-of-length-le l {i = p} (omega arith), drop-of-length-le l {i = length l} (omega arith))
-    ]
-
-put-within : (d : List ℕ) (p : ℕ) (text : List ℕ) → 0 < length text → putIfFits d (min p (length d)) text ≡ putIfFits d p text
-put-within d p text h =
-    elim (decLt p (length d)) [
-      | yes l ↦ let e : min p (length d) ≡ p = omega arith in rw e
-      | no l ↦ sym (not-put d (min p (length d)) text (omega arith)) ∙ not-put d p text (omega arith)
     ]
 
 pub clamped : (s : List ℕ) (at n start size : ℕ) → start ≡ min at (length s) → size ≡ min n (length s - start)
@@ -62,6 +56,12 @@ one-and-more n (suc p) [] = take-nil n
 one-and-more n (suc p) (x ∷ l) = one-and-more n p l
 
 module _ (marks : List ℕ) (lane : ℕ) where
+  -- the place of octet k, by a table that has the blocks of n octets
+  pub listed-place : (table : List ℕ) (from n k at : ℕ) → ListsLane lane from (blocksFor n) table marks → from ≤ k / 256 → k < n
+      → at ≡ getD table (k / 256) 0 * 256 + k % 256 → at ≡ place marks lane k
+  unfolding place blocksFor
+  listed-place table from n k at lists low high e = e ∙ rw (lists (k / 256) low (omega arith))
+
   next-place : (k : ℕ) → k % 256 + 1 < 256 → suc (place marks lane k) ≡ place marks lane (k + 1)
   unfolding place
   next-place k h = let e : (k + 1) / 256 ≡ k / 256 = omega arith in rw e (omega arith)
@@ -73,14 +73,14 @@ module _ (marks : List ℕ) (lane : ℕ) where
   run-stored pool k p (d ∷ []) e h = rw e
   run-stored pool k p (d ∷ b ∷ ds) e h = rw (← e) (run-stored (set pool p d) (k + 1) (suc p) (b ∷ ds) (ap suc e ∙ next-place k (omega arith)) (omega arith))
 
-  pub run-put : (pool : List ℕ) (k : ℕ) (ds : List ℕ) → length pool ≡ 16384 → 0 < length ds → k % 256 + length ds ≤ 256
-      → stored marks lane pool k ds ≡ putIfFits pool (place marks lane k) ds
+  run-put : (pool : List ℕ) (k p : ℕ) (ds : List ℕ) → length pool ≡ 16384 → p ≡ place marks lane k → 0 < length ds → k % 256 + length ds ≤ 256
+      → stored marks lane pool k ds ≡ putIfFits pool p ds
   unfolding place
-  run-put pool k ds size some h =
-      run-stored pool k (place marks lane k) ds refl h
+  run-put pool k p ds size e some h =
+      run-stored pool k p ds e h
       ∙ elim (decLt (find marks (mark lane (k / 256))) 64) [
-        | yes l ↦ sets-in pool (place marks lane k) ds (omega arith)
-        | no l ↦ sets-out pool (place marks lane k) ds (omega arith) ∙ not-put pool (place marks lane k) ds (omega arith)
+        | yes l ↦ sets-in pool p ds (omega arith)
+        | no l ↦ sets-out pool p ds (omega arith) ∙ not-put pool p ds (omega arith)
       ]
 
   pub stored-then : (pool : List ℕ) (k : ℕ) (a b : List ℕ) → stored marks lane pool k (a ++ b) ≡ stored marks lane (stored marks lane pool k a) (k + length a) b
@@ -103,9 +103,6 @@ module _ (marks : List ℕ) (lane : ℕ) where
   run-gathered pool k p (suc (suc n)) e h =
       rw (← e, run-gathered pool (k + 1) (suc p) (suc n) (ap suc e ∙ next-place k (omega arith)) (omega arith)) (one-and-more (suc n) p pool)
 
-  pub run-part : (pool : List ℕ) (k n : ℕ) → k % 256 + n ≤ 256 → gathered marks lane pool k n ≡ take n (drop (place marks lane k) pool)
-  run-part pool k n h = run-gathered pool k (place marks lane k) n refl h
-
   pub gathered-then : (pool : List ℕ) (k a b : ℕ) → gathered marks lane pool k (a + b) ≡ gathered marks lane pool k a ++ gathered marks lane pool (k + a) b
   unfolding gathered
   gathered-then pool k zero b = rw (zero-add, add-zero)
@@ -123,7 +120,7 @@ module _ (marks : List ℕ) (lane : ℕ) where
 
   -- ---- a turn of each loop
   module _ (pool : List ℕ) (from done run at : ℕ) (octets after : List ℕ) (size : length pool ≡ 16384) (more : done < length octets)
-      (r : run ≡ min (256 - (from + done) % 256) (length octets - done)) (a : at ≡ min (place marks lane (from + done)) (length pool))
+      (r : run ≡ min (256 - (from + done) % 256) (length octets - done)) (a : at ≡ place marks lane (from + done))
       (e : after ≡ putIfFits pool at (take (done + run - done) (drop done octets))) where
     abbrev text : List ℕ
     text = take run (drop done octets)
@@ -134,9 +131,7 @@ module _ (marks : List ℕ) (lane : ℕ) where
     run-is : stored marks lane pool (from + done) text ≡ after
     run-is =
         let same : done + run - done ≡ run = omega arith in
-        run-put pool (from + done) text size (omega (arith, text-length)) (omega (arith, text-length))
-        ∙ sym (put-within pool (place marks lane (from + done)) text (omega (arith, text-length)))
-        ∙ sym (e ∙ rw (same, a))
+        run-put pool (from + done) at text size a (omega (arith, text-length)) (omega (arith, text-length)) ∙ sym (e ∙ rw same)
 
     pub store-turn : stored marks lane pool (from + done) (drop done octets) ≡ stored marks lane after (from + (done + run)) (drop (done + run) octets)
     store-turn =
@@ -154,12 +149,11 @@ module _ (marks : List ℕ) (lane : ℕ) where
 
   module _ (pool out₀ : List ℕ) (n k run at to p : ℕ) (out text after : List ℕ) (room : n ≤ length out₀) (more : k < n)
       (w : Wrote out₀ 0 (gathered marks lane pool 0 k) out at)
-      (r : run ≡ min (256 - k % 256) (n - k)) (a : p ≡ min (place marks lane k) (length pool)) (t : text ≡ take run (drop p pool))
+      (r : run ≡ min (256 - k % 256) (n - k)) (a : p ≡ place marks lane k) (t : text ≡ take run (drop p pool))
       (e : after ≡ putIfFits out at text) (f : to ≡ at + length text) where
     pub gather-turn : Wrote out₀ 0 (gathered marks lane pool 0 (k + run)) after to
     gather-turn =
-        let same : text ≡ gathered marks lane pool k run =
-        t ∙ rw (a, drop-within (place marks lane k) pool) (sym (run-part pool k run (omega arith))) in
+        let same : text ≡ gathered marks lane pool k run = t ∙ sym (run-gathered pool k p run a (omega arith)) in
         let all : gathered marks lane pool 0 (k + run) ≡ gathered marks lane pool 0 k ++ text = gathered-then pool 0 k run ∙ rw (zero-add, same) in
         let few : length (gathered marks lane pool 0 (k + run)) ≤ k + run = gathered-at-most pool 0 (k + run) in
         let fits : Fits out₀ 0 (gathered marks lane pool 0 k ++ text) = rw (← all) (omega arith) in

@@ -1,40 +1,59 @@
--- What carries the test of the marks: from the highest block down, each turn writes what a search from there on would find.
+-- What carries the tables and the test of the marks: from the highest block down, each turn writes what a search from there on would find.
 use Prim.Native.Nat.{ℕ, suc, _+_, _-_, _*_, _≤_, _<_}
 use mathlib.Core.Path.{_≡_, refl, sym, _∙_}
 use mathlib.Core.Bool.{Bool, true, false, _&&_}
 use mathlib.Core.List.{List, [], _∷_}
-use native.Mathlib.Nat.{sub-zero}
+use native.Mathlib.Nat.{zero-add, sub-zero}
 use native.Mathlib.Numerals.{add-one}
 use native.Mathlib.Omega.{arith}
 use borrow.Author.Tests.{le-leb, lt-leb, lt-ltb, le-ltb, eq-eqb, ne-eqb}
-use lib.ListN.{length, getD, set, drop, drop-of-length-le}
+use lib.ListN.{length, getD, set, drop, replicate, drop-of-length-le, getD-replicate}
 use lib.Seq.{drop-cons, getD-set-same, getD-set-other}
-use Rattle.pool.specs.Blocks.{free, find}
+use Rattle.pool.specs.Blocks.{mark, find}
+use Rattle.pool.specs.Lookup.{ListsLane}
 use Rattle.octets.specs.Octets.{one}
 use Rattle.pool.specs.Matching.{found, holds, eachHolds, count, isFree, sum, matching}
-use Rattle.pool.proofs.Finding.{by-case, is-here, is-later}
+use Rattle.pool.proofs.Finding.{by-case, is-here, is-later, is-nowhere}
 
--- ---- the table: the blocks from `block` on are in it
-abbrev pub ListsFrom : ℕ → List ℕ → List ℕ → Type 0
-ListsFrom block table marks = (m : ℕ) → m < free → getD table m 0 ≡ block + find (drop block marks) m
+-- ---- a table of n places, of which place q has the mark `markOf q`: the blocks from `block` on are in it
+abbrev pub ListsFrom : (ℕ → ℕ) → ℕ → ℕ → List ℕ → List ℕ → Type 0
+ListsFrom markOf n block table marks = (q : ℕ) → q < n → getD table q 0 ≡ block + find (drop block marks) (markOf q)
 
-module _ (marks table : List ℕ) (block m : ℕ) (some : 0 < block) (in-pool : block ≤ length marks) (e : m ≡ getD marks (block - 1) 0) (lists : ListsFrom block table marks) where
-  -- what a turn leaves of every other mark
-  others : (n : ℕ) → n < free → (n ≡ m → ⊥) → getD table n 0 ≡ block - 1 + find (drop (block - 1) marks) n
-  others n h d =
-      let next : block - 1 + 1 ≡ block = omega arith in
-      let later : find (drop (block - 1) marks) n ≡ find (drop block marks) n + 1 =
-      rw next at (is-later marks (block - 1) n (omega arith) (λ z. d (sym z ∙ sym e))) in
-      omega (arith, lists n h)
+module _ (markOf : ℕ → ℕ) (n : ℕ) (marks : List ℕ) where
+  pub table-begins : length marks ≡ 64 → ListsFrom markOf n 64 (replicate n 64) marks
+  table-begins e q h = getD-replicate {A = ℕ} n q 64 0 h ∙ omega (arith, is-nowhere marks 64 (markOf q) (omega arith))
 
-  pub table-turn : m < length table → ListsFrom (block - 1) (set table m (block - 1)) marks
-  table-turn l n h =
-      by-case n m
-      (λ z. rw z (getD-set-same table m (block - 1) 0 l ∙ omega (arith, is-here marks (block - 1) m (omega arith) (sym e))))
-      (λ d. getD-set-other table m n (block - 1) 0 d ∙ others n h d)
+  pub table-ends : (table : List ℕ) (block : ℕ) → block ≡ 0 → ListsFrom markOf n block table marks → (q : ℕ) → q < n → getD table q 0 ≡ find marks (markOf q)
+  table-ends table block none lists q h = rw none at (lists q h) ∙ zero-add (find marks (markOf q))
 
-  pub table-keeps : free ≤ m → ListsFrom (block - 1) table marks
-  table-keeps l n h = others n h (λ z. omega arith)
+  module _ (table : List ℕ) (block m : ℕ) (some : 0 < block) (in-pool : block ≤ length marks) (e : m ≡ getD marks (block - 1) 0)
+      (lists : ListsFrom markOf n block table marks) where
+    -- what a turn leaves of every other mark
+    others : (q : ℕ) → q < n → (markOf q ≡ m → ⊥) → getD table q 0 ≡ block - 1 + find (drop (block - 1) marks) (markOf q)
+    others q h d =
+        let next : block - 1 + 1 ≡ block = omega arith in
+        let later : find (drop (block - 1) marks) (markOf q) ≡ find (drop block marks) (markOf q) + 1 =
+        rw next at (is-later marks (block - 1) (markOf q) (omega arith) (λ z. d (sym z ∙ sym e))) in
+        omega (arith, lists q h)
+
+    -- the block's mark is that of place p alone, or of none
+    pub table-turn : (p : ℕ) → p < length table → markOf p ≡ m → ((q : ℕ) → q < n → markOf q ≡ m → q ≡ p)
+        → ListsFrom markOf n (block - 1) (set table p (block - 1)) marks
+    table-turn p l here alone q h =
+        by-case q p
+        (λ z. rw (z, here) (getD-set-same table p (block - 1) 0 l ∙ omega (arith, is-here marks (block - 1) m (omega arith) (sym e))))
+        (λ d. getD-set-other table p q (block - 1) 0 d ∙ others q h (λ z. d (alone q h z)))
+
+    pub table-keeps : ((q : ℕ) → q < n → markOf q ≡ m → ⊥) → ListsFrom markOf n (block - 1) table marks
+    table-keeps nowhere q h = others q h (nowhere q h)
+
+-- ---- a table of the places of a lane that were searched for: one more
+pub search-turn : (lane from place v : ℕ) (table marks : List ℕ) → place < length table → v ≡ find marks (mark lane place)
+    → ListsLane lane from place table marks → ListsLane lane from (place + 1) (set table place v) marks
+search-turn lane from place v table marks h e lists q low high =
+    by-case q place
+    (λ z. rw z (getD-set-same table place v 0 h ∙ e))
+    (λ d. getD-set-other table place q v 0 d ∙ lists q low (omega arith))
 
 -- ---- one place of a lane after the other
 module _ (marks : List ℕ) (m n place : ℕ) (h : place < n) where
@@ -76,6 +95,14 @@ module _ (marks held : List ℕ) (lane : ℕ) (h : lane < length held) where
 pub lanes-end : (marks held : List ℕ) (lane : ℕ) → length held ≤ lane → eachHolds marks lane (drop lane held) ≡ true
 unfolding eachHolds
 lanes-end marks held lane h = rw (drop-of-length-le held h)
+
+-- lanes that hold nothing have all that they hold
+pub none-held : (marks : List ℕ) (lane : ℕ) (held : List ℕ) → sum held ≡ 0 → eachHolds marks lane held ≡ true
+unfolding sum eachHolds holds found
+none-held marks lane [] e = refl
+none-held marks lane (n ∷ held) e =
+    let none : n ≡ 0 = omega arith in
+    rw none (none-held marks (lane + 1) held (omega arith))
 
 -- ---- the two sums
 pub count-turn : (marks : List ℕ) (block : ℕ) → block < length marks → count isFree (drop block marks) ≡ one (isFree (getD marks block 0)) + count isFree (drop (block + 1) marks)

@@ -30,11 +30,7 @@ pub const FREE: u16 = 512;
 pub fn blocks_for(n: usize) -> usize
     ensures { λ r. ⌜ r ≡ blocksFor n ⌝ }
 {
-    if n % BLOCK_OCTETS == 0 {
-        n / BLOCK_OCTETS
-    } else {
-        n / BLOCK_OCTETS + 1
-    }
+    n / BLOCK_OCTETS + (n % BLOCK_OCTETS + 255) / BLOCK_OCTETS
 }
 
 // The n lowest-numbered free blocks become the lane's blocks from, from + 1, ... Each search starts at the block that the last one found:
@@ -72,8 +68,8 @@ pub fn free_blocks(marks: [u16; 64], lane: u8) -> [u16; 64]
 }
 
 // The octets become octets from, from + 1, .. of the lane's group, unless a group can't have so many.
-pub fn store_octets(marks: &[u16], lane: u8, pool: &mut [u8], from: usize, octets: &[u8])
-    ensures { λ _. ⌜ now (pool .exit) ≡ storedIfFits (now (marks .entry)) lane (now (pool .entry)) from (now (octets .entry)) ⌝ }
+pub fn store_octets(marks: [u16; 64], lane: u8, pool: &mut [u8], from: usize, octets: &[u8])
+    ensures { λ _. ⌜ now (pool .exit) ≡ storedIfFits marks lane (now (pool .entry)) from (now (octets .entry)) ⌝ }
 {
     if pool.len() != POOL_OCTETS {
         return;
@@ -84,13 +80,13 @@ pub fn store_octets(marks: &[u16], lane: u8, pool: &mut [u8], from: usize, octet
     if POOL_OCTETS - octets.len() < from {
         return;
     }
-    store_runs(marks, lane, pool, from, octets);
+    store_runs(&marks, lane, pool, from, octets);
 }
 
 // Puts the first n octets of the lane's group at the front of out, and tells how many were put.
-pub fn gather_octets(marks: &[u16], lane: u8, pool: &[u8], n: usize, out: &mut [u8]) -> usize
-    ensures { λ r. ⌜ r ≡ length (gatheredIfFits (now (marks .entry)) lane (now (pool .entry)) n (length (now (out .entry)))) ⌝ }
-    ensures { λ _. ⌜ now (out .exit) ≡ put (now (out .entry)) 0 (gatheredIfFits (now (marks .entry)) lane (now (pool .entry)) n (length (now (out .entry)))) ⌝ }
+pub fn gather_octets(marks: [u16; 64], lane: u8, pool: &[u8], n: usize, out: &mut [u8]) -> usize
+    ensures { λ r. ⌜ r ≡ length (gatheredIfFits marks lane (now (pool .entry)) n (length (now (out .entry)))) ⌝ }
+    ensures { λ _. ⌜ now (out .exit) ≡ put (now (out .entry)) 0 (gatheredIfFits marks lane (now (pool .entry)) n (length (now (out .entry)))) ⌝ }
 {
     if out.len() < n {
         return 0;
@@ -98,15 +94,19 @@ pub fn gather_octets(marks: &[u16], lane: u8, pool: &[u8], n: usize, out: &mut [
     if POOL_OCTETS < n {
         return 0;
     }
-    gather_runs(marks, lane, pool, n, out)
+    gather_runs(&marks, lane, pool, n, out)
 }
 
-// Whether the marks match what the eight lanes hold. The sum goes first: past it no more than 64 places are looked up.
+// Whether the marks match what the eight lanes hold. The sum goes first: past it no more than 64 places are looked up, and none if none is held.
 pub fn marks_match(marks: [u16; 64], held: [u16; 8]) -> bool
     ensures { λ r. ⌜ r ≡ matching marks held ⌝ }
 {
-    if count_free(&marks) + sum_held(&held) != BLOCKS {
+    let in_use = sum_held(&held);
+    if count_free(&marks) + in_use != BLOCKS {
         return false;
+    }
+    if in_use == 0 {
+        return true;
     }
     let table = blocks_by_mark(&marks);
     each_holds(&table, &held)

@@ -1,11 +1,12 @@
-// The octets of a lane's group, to and from the pool in runs. A run ends where its block does, and one search finds the block.
+// The octets of a lane's group, to and from the pool in runs. A run ends where its block does, and a table tells the block.
 ghost use mathlib.Core.Path.{_≡_};
-ghost use Prim.Native.Nat.{_+_, _≤_, _<_, min};
-ghost use lib.ListN.{length, take, drop};
+ghost use Prim.Native.Nat.{_+_, _*_, _/_, _%_, _≤_, _<_, min};
+ghost use lib.ListN.{length, getD, take, drop};
 ghost use Rattle.octets.specs.Output.{put as puts};
-ghost use Rattle.pool.specs.Octets.{place, stored, gathered};
+ghost use Rattle.pool.specs.Octets.{stored, gathered};
 use crate::BLOCK_OCTETS;
-use crate::search::find_from;
+use crate::blocks_for;
+use crate::table::blocks_of_lane;
 use octets::put_octets;
 
 // The smaller of two numbers.
@@ -15,17 +16,19 @@ fn smaller(a: usize, b: usize) -> usize
     if a <= b { a } else { b }
 }
 
-// Where octet k of the lane's group lies in a pool of n octets, or n where that is past its end. A product that could overflow is not made.
-fn place_within(n: usize, marks: &[u16], lane: u8, k: usize) -> usize
-    requires { ⌜ (n < 9223372036854775808) × (k ≤ 16384) ⌝ }
-    ensures { λ r. ⌜ r ≡ min (place (now (marks .entry)) lane k) n ⌝ }
+// Where octet k of a group lies in the pool, in this block.
+fn in_block(block: u8, k: usize) -> usize
+    ensures { λ r. ⌜ r ≡ block * 256 + k % 256 ⌝ }
 {
-    let mark = lane as u16 * 64 + (k / BLOCK_OCTETS) as u16;
-    let block = find_from(marks, 0, mark);
-    if n / BLOCK_OCTETS < block {
-        return n;
-    }
-    smaller(block * BLOCK_OCTETS + k % BLOCK_OCTETS, n)
+    block as usize * BLOCK_OCTETS + k % BLOCK_OCTETS
+}
+
+// The same by a table, at whose entry for octet k its block stands.
+fn place_listed(table: &[u8; 64], k: usize) -> usize
+    requires { ⌜ k < 16384 ⌝ }
+    ensures { λ r. ⌜ r ≡ getD (now (table .entry)) (k / 256) 0 * 256 + k % 256 ⌝ }
+{
+    in_block(table[k / BLOCK_OCTETS], k)
 }
 
 // The part of s from index at on that has n octets, or as many as there are.
@@ -39,30 +42,36 @@ fn part(s: &[u8], at: usize, n: usize) -> &[u8]
 
 // The octets become octets from, from + 1, .. of the lane's group.
 pub(crate) fn store_runs(marks: &[u16], lane: u8, pool: &mut [u8], from: usize, octets: &[u8])
-    requires { ⌜ (length (now pool) ≡ 16384) × (from + length (now octets) ≤ 16384) ⌝ }
+    requires { ⌜ (length (now marks) ≡ 64) × (length (now pool) ≡ 16384) × (from + length (now octets) ≤ 16384) ⌝ }
     ensures { λ _. ⌜ now (pool .exit) ≡ stored (now (marks .entry)) lane (now (pool .entry)) from (now (octets .entry)) ⌝ }
 {
+    let table = blocks_of_lane(
+        marks,
+        lane,
+        from / BLOCK_OCTETS,
+        blocks_for(from + octets.len()),
+    );
     let mut done: usize = 0;
     while done < octets.len() {
         let k = from + done;
         let end = done + smaller(BLOCK_OCTETS - k % BLOCK_OCTETS, octets.len() - done);
-        let at = place_within(pool.len(), marks, lane, k);
-        put_octets(pool, at, &octets[done..end]);
+        put_octets(pool, place_listed(&table, k), &octets[done..end]);
         done = end;
     }
 }
 
 // Puts the first n octets of the lane's group at the front of out, and tells how many were put.
 pub(crate) fn gather_runs(marks: &[u16], lane: u8, pool: &[u8], n: usize, out: &mut [u8]) -> usize
-    requires { ⌜ (n ≤ length (now out)) × (n ≤ 16384) ⌝ }
+    requires { ⌜ (length (now marks) ≡ 64) × (n ≤ length (now out)) × (n ≤ 16384) ⌝ }
     ensures { λ r. ⌜ r ≡ length (gathered (now (marks .entry)) lane (now (pool .entry)) 0 n) ⌝ }
     ensures { λ _. ⌜ now (out .exit) ≡ puts (now (out .entry)) 0 (gathered (now (marks .entry)) lane (now (pool .entry)) 0 n) ⌝ }
 {
+    let table = blocks_of_lane(marks, lane, 0, blocks_for(n));
     let mut at: usize = 0;
     let mut k: usize = 0;
     while k < n {
         let run = smaller(BLOCK_OCTETS - k % BLOCK_OCTETS, n - k);
-        let text = part(pool, place_within(pool.len(), marks, lane, k), run);
+        let text = part(pool, place_listed(&table, k), run);
         put_octets(out, at, text);
         at += text.len();
         k += run;

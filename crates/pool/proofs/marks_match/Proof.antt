@@ -3,29 +3,36 @@ use Prim.Native.Nat.{_+_}
 use mathlib.Core.Path.{_≡_, ap₂, sym, _∙_}
 use native.Mathlib.Omega.{arith}
 use Rattle.pool.specs.Matching.{count, isFree, sum}
-use Rattle.pool.proofs.Looking.{count-at-most, lanes-decide, sum-decides}
+use Rattle.pool.proofs.Looking.{none-held, count-at-most, lanes-decide, sum-decides}
 use borrow.Author.Needs.{needs}
 use Rattle.pool.proofs.marks_match.Statement.{statement}
 use Rattle.pool.proofs.marks_match.Tie as tie
 
 -- what was counted and added
-told : (c : tie.After-sum-held) → c .before .before .count-free .result + c .sum-held .result ≡ count isFree (c .before .before .before .before .args .t1) + sum (c .before .before .before .before .args .t2)
-told c = ap₂ _+_ (c .before .before .count-free .ensures) (c .sum-held .ensures .0)
+told : (c : tie.After-count-free) → c .count-free .result + c .before .before .sum-held .result ≡ count isFree (c .before .before .before .before .args .t1) + sum (c .before .before .before .before .args .t2)
+told c = ap₂ _+_ (c .count-free .ensures) (c .before .before .sum-held .ensures .0)
 
 add-if1 : tie.Need-add-if1
-add-if1 c = omega (arith, count-at-most isFree (c .before .before .before .before .args .t1), c .before .before .count-free .ensures, c .sum-held .ensures .1)
+add-if1 c = omega (arith, count-at-most isFree (c .before .before .before .before .args .t1), c .count-free .ensures, c .before .before .sum-held .ensures .1)
 
 returns : tie.Need-returns
 returns c = sum-decides _ _ (λ e. c .if1 .taken (told (c .before) ∙ e))
 
 returns-2 : tie.Need-returns-2
 returns-2 c =
-    let counted = c .before .before .before .before .before .before in
+    let counted = c .before .before in
     let start = counted .before .before .before .before in
+    sym (none-held (start .args .t1) 0 (start .args .t2) (sym (counted .before .before .sum-held .ensures .0) ∙ c .if2 .taken))
+    ∙ lanes-decide (start .args .t1) (start .args .t2) (sym (told counted) ∙ c .before .if1 .left)
+
+returns-3 : tie.Need-returns-3
+returns-3 c =
+    let added = c .before .before .before .before .before .before in
+    let start = added .before .before .before .before .before in
     c .each-holds .ensures (start .args .t1) (c .before .before .before .blocks-by-mark .ensures)
-    ∙ lanes-decide (start .args .t1) (start .args .t2) (sym (told counted) ∙ c .before .before .before .before .before .if1 .left)
+    ∙ lanes-decide (start .args .t1) (start .args .t2) (sym (told (added .before)) ∙ added .if1 .left)
 
 pub marks-match-spec : {M : Type 1} → statement M
 marks-match-spec =
     tie.close
-    (tie.spec (λ c. search needs) (λ c κs. search needs) (λ c. search needs) (λ c κs. search needs) add-if1 returns (λ c. search needs) (λ c κs. search needs) (λ c. search needs) (λ c κs. search needs) returns-2)
+    (tie.spec (λ c. search needs) (λ c κs. search needs) (λ c. search needs) (λ c κs. search needs) add-if1 returns returns-2 (λ c. search needs) (λ c κs. search needs) (λ c. search needs) (λ c κs. search needs) returns-3)

@@ -10,25 +10,19 @@ grow-requires : tie.Need-grow-requires
 grow-requires c κs = let p = c .before .before .pre in (p .0 .0, p .2, omega (arith, p .1))
 
 count-in-requires : tie.Need-count-in-requires
-count-in-requires c κs = c .before .before .before .before .before .before .before .before .before .pre .0 .1
+count-in-requires c κs = c .before .before .before .before .before .before .before .before .pre .0 .1
 
 returns : tie.Need-returns
 returns c =
-    let s = c .before .before .before .before .before .before .before .before .before .before .args in (
-      held-kept _ _ _ _ _ _ _ (c .count-in .ensures) _ (c .before .before .before .before .before .before .before .grow .ensures),
-      held-pool _ _ _ _ _ _ (now (s .user)) (now (s .pool)) (c .before .before .before .before .before .before .before .before .before .before .pre) _ (c .before .before .before .before .before .before .before .grow .ensures) _ (c .before .before .before .before .start-of .ensures) _ (c .before .before .before .store-octets .ensures),
+    let stored = c .before .before .before in
+    let grown = stored .before .before .before in
+    let start = grown .before .before .before in
+    let s = start .args in (
+      held-kept _ _ _ _ _ _ _ (c .count-in .ensures) _ (grown .grow .ensures),
+      held-pool _ _ _ _ _ _ (now (s .user)) (now (s .pool)) (start .pre) _ (grown .grow .ensures) _ (stored .before .start-of .ensures) _ (stored .store-octets .ensures),
     )
 
 pub hold-spec : {M : Type 1} → statement M
 hold-spec =
     tie.close
-    (tie.spec
-    grow-requires
-    (λ c. search needs)
-    (λ c. search needs)
-    (λ c κs. search needs)
-    (λ c κs. search needs)
-    (λ c. search needs)
-    count-in-requires
-    (λ c. search needs)
-    returns)
+    (tie.spec grow-requires (λ c. search needs) (λ c κs. search needs) (λ c κs. search needs) (λ c. search needs) count-in-requires (λ c. search needs) returns)

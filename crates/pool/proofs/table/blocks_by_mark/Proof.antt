@@ -1,46 +1,47 @@
 -- The loop's invariant is that the table lists the blocks that were passed, from the highest down; `Looking` has its two turns.
 use Prim.Native.Nat.{ℕ, _≤_}
-use mathlib.Core.Path.{_≡_, _∙_}
-use native.Mathlib.Nat.{zero-add}
+use mathlib.Core.Path.{_≡_, refl}
 use native.Mathlib.Omega.{arith}
 use denote.Ref.{now}
-use lib.ListN.{length, length-set, length-replicate, getD-replicate}
-use Rattle.pool.proofs.Finding.{is-nowhere}
-use Rattle.pool.proofs.Looking.{ListsFrom, table-turn, table-keeps}
+use lib.ListN.{length, length-set, length-replicate}
+use Rattle.pool.proofs.Looking.{ListsFrom, table-begins, table-turn, table-keeps, table-ends}
 use borrow.Author.Needs.{needs}
 use Rattle.pool.proofs.table.blocks_by_mark.Statement.{statement}
 use Rattle.pool.proofs.table.blocks_by_mark.Tie as tie
 
 abbrev Inv-loop : tie.InvT-loop
-Inv-loop marks table₀ block₀ table block = (block ≤ 64) × (length table ≡ 512) × ListsFrom block table marks
+Inv-loop marks table₀ block₀ table block = (block ≤ 64) × (length table ≡ 512) × ListsFrom (λ m. m) 512 block table marks
 
 abbrev μ-loop : tie.MeasureT-loop
 μ-loop marks table₀ block₀ table block = block
 
 loop-holds : tie.Need-loop-holds Inv-loop μ-loop
 loop-holds c =
-    (search needs, length-replicate {A = ℕ} 512 64, λ m h. getD-replicate {A = ℕ} 512 m 64 0 h ∙ omega (arith, is-nowhere (now (c .before .args .marks)) 64 m (search needs)))
+    (search needs, length-replicate {A = ℕ} 512 64, table-begins _ _ (now (c .before .args .marks)) (search needs))
 
 loop-again : tie.Need-loop-again Inv-loop μ-loop
 loop-again c =
-    let loop = c .before .before .before .before in
-    let marks = now (loop .before .before .args .marks) in (
+    let read = c .before in
+    let loop = read .before .before .before in
+    let m = read .wide .result in (
       search needs,
       simp length-set (loop .loop .inv .1),
-      table-turn marks (loop .loop .table) (loop .loop .block) (c .before .wide .result) (c .before .before .before .loop-test .taken) (search needs) (c .before .wide .ensures) (loop .loop .inv .2) (search needs),
+      table-turn _ _ (now (loop .before .before .args .marks)) (loop .loop .table) (loop .loop .block) m (read .before .before .loop-test .taken) (search needs) (read .wide .ensures)
+          (loop .loop .inv .2) m (search needs) refl (λ q h e. e),
     )
 
 loop-again-2 : tie.Need-loop-again-2 Inv-loop μ-loop
 loop-again-2 c =
-    let loop = c .before .before .before .before in
-    let marks = now (loop .before .before .args .marks) in (
+    let read = c .before in
+    let loop = read .before .before .before in (
       search needs,
       search needs,
-      table-keeps marks (loop .loop .table) (loop .loop .block) (c .before .wide .result) (c .before .before .before .loop-test .taken) (search needs) (c .before .wide .ensures) (loop .loop .inv .2) (c .if1 .left),
+      table-keeps _ _ (now (loop .before .before .args .marks)) (loop .loop .table) (loop .loop .block) (read .wide .result) (read .before .before .loop-test .taken) (search needs)
+          (read .wide .ensures) (loop .loop .inv .2) (λ q h e. omega (arith, c .if1 .left)),
     )
 
 returns : tie.Need-returns Inv-loop μ-loop
-returns c = λ m h. let none : c .before .loop .block ≡ 0 = omega arith in rw none at (c .before .loop .inv .2 m h) ∙ zero-add _
+returns c = table-ends _ _ _ (c .before .loop .table) (c .before .loop .block) (omega arith) (c .before .loop .inv .2)
 
 pub blocks-by-mark-spec : {M : Type 1} → statement M
 blocks-by-mark-spec =

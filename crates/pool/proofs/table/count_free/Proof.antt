@@ -3,7 +3,7 @@ use Prim.Native.Nat.{_+_, _-_, _≤_}
 use mathlib.Core.Path.{_≡_}
 use native.Mathlib.Omega.{arith}
 use denote.Ref.{now}
-use lib.ListN.{length, getD, drop}
+use lib.ListN.{getD, drop}
 use Rattle.pool.specs.Matching.{count, isFree}
 use Rattle.pool.proofs.Looking.{count-turn, count-end, one-at-most}
 use borrow.Author.Needs.{needs}
@@ -11,10 +11,10 @@ use Rattle.pool.proofs.table.count_free.Statement.{statement}
 use Rattle.pool.proofs.table.count_free.Tie as tie
 
 abbrev Inv-loop : tie.InvT-loop
-Inv-loop marks n₀ block₀ n block = (block ≤ length marks) × (n ≤ block) × (count isFree marks ≡ n + count isFree (drop block marks))
+Inv-loop marks n₀ block₀ n block = (block ≤ 64) × (n ≤ block) × (count isFree marks ≡ n + count isFree (drop block marks))
 
 abbrev μ-loop : tie.MeasureT-loop
-μ-loop marks n₀ block₀ n block = length marks - block
+μ-loop marks n₀ block₀ n block = 64 - block
 
 loop-holds : tie.Need-loop-holds Inv-loop μ-loop
 loop-holds c = search needs
@@ -32,12 +32,13 @@ loop-again c =
     let marks = now (loop .before .before .args .marks) in
     let few = one-at-most (isFree (getD marks (loop .loop .block) 0)) in
     let is = c .one-if-free .ensures in
-    let turn = count-turn marks (loop .loop .block) (c .before .before .loop-test .taken) in
+    let turn = count-turn marks (loop .loop .block) (search needs) in
     (omega arith, omega arith, omega arith)
 
 returns : tie.Need-returns Inv-loop μ-loop
-returns c = let none = count-end (now (c .before .before .before .args .marks)) (c .before .loop .block) (c .loop-test .left) in omega arith
+returns c = let none = count-end (now (c .before .before .before .args .marks)) (c .before .loop .block) (search needs) in omega arith
 
 pub count-free-spec : {M : Type 1} → statement M
 count-free-spec =
-    tie.close (tie.spec Inv-loop μ-loop loop-holds (λ c. search needs) (λ c. search needs) (λ c κs. search needs) add-n (λ c. search needs) (λ c. search needs) loop-again returns)
+    tie.close
+    (tie.spec Inv-loop μ-loop loop-holds (λ c. search needs) (λ c. search needs) (λ c κs. search needs) add-n (λ c. search needs) (λ c. search needs) loop-again (λ c. search needs) returns)
