@@ -22,7 +22,7 @@ returns-2 : tie.Need-returns-2
 returns-2 c =
     let counted = c .before .before in
     let start = counted .before .before .before .before in
-    sym (none-held (start .args .t1) 0 (start .args .t2) (sym (counted .before .before .sum-held .ensures .0) ∙ c .if2 .taken))
+    sym (none-held (start .args .t1) 0 (start .args .t2) (omega (arith, counted .before .before .sum-held .ensures .0, c .if2 .taken)))
     ∙ lanes-decide (start .args .t1) (start .args .t2) (sym (told counted) ∙ c .before .if1 .left)
 
 returns-3 : tie.Need-returns-3
