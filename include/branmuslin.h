@@ -3,7 +3,7 @@
  * packets into whole units for up to eight lanes that share one pool of memory.
  *
  * A static library for Linux on x86-64, for programs and shared objects; the flags stand after the source files:
- * cc program.c $(pkg-config --cflags --libs branmuslin). It needs no other library, allocates nothing and keeps nothing between calls: the state
+ * cc program.c $(pkg-config --cflags --libs branmuslin). It needs nothing but memcpy and memset, allocates nothing and keeps nothing between calls: the state
  * of the lanes is a struct that you hand in and get back, and the pool is memory that you lend. Any thread may call it at any time.
  *
  * What holds for every function:
@@ -210,19 +210,22 @@ uint8_t branmuslin_read_record_file(const uint8_t *octets, size_t octets_length,
  *         if (answer.kind == BRANMUSLIN_UNIT)
  *             use(unit, answer.octets);
  *     }
- *     state = branmuslin_close_lane(state, 0, pool, sizeof pool, record, sizeof record).state;
+ *     change = branmuslin_close_lane(state, 0, pool, sizeof pool, record, sizeof record);
+ *     state = change.state;  (the record is there if change.refusal is 0)
  */
 #define BRANMUSLIN_LANES 8
 #define BRANMUSLIN_BLOCKS 64
 #define BRANMUSLIN_POOL_LENGTH 16384
 
-/* Octets of the longest unit: an output of this length always suffices for a packet's. */
+/* Octets of the longest unit: an output of this length always suffices for branmuslin_take_packet. */
 #define BRANMUSLIN_LONGEST_UNIT 81920
 
 /* The most packets that a lane takes from its opening to its closing. */
 #define BRANMUSLIN_MOST_PACKETS 262144
 
-/* What an opening gives a lane. */
+/*
+ * What an opening gives a lane. C cuts a wider number to these widths without a word: test numbers that come from elsewhere before you put them here.
+ */
 struct branmuslin_settings {
     uint16_t station;   /* station number */
     uint16_t apid;      /* 0 to 2046: whose packets the lane takes */
@@ -231,7 +234,7 @@ struct branmuslin_settings {
     uint8_t cap;        /* the most blocks that it may hold, at most 64 */
 };
 
-/* One lane, to look at. A closed lane is all 0. */
+/* One lane, to look at. Every field of a closed lane is 0. */
 struct branmuslin_lane {
     bool opened;
     struct branmuslin_settings settings;
@@ -247,7 +250,8 @@ struct branmuslin_lane {
 /*
  * The state of all lanes: 416 octets, by value. Hand each call the state that the last one gave back, with the same pool, and change neither in between. A
  * state or a pool that was kept elsewhere may be used again together; a state that is not sound is refused (24), but only you can know whether the
- * pool is the one that belongs to it.
+ * pool is the one that belongs to it. Each bool must be one that C made, 0 or 1 in memory: of other octets, as a damaged file may have, is_sound does not
+ * tell. The octets between fields have no meaning: compare states field by field, not by memcmp.
  */
 struct branmuslin_state {
     struct branmuslin_lane lanes[BRANMUSLIN_LANES];
