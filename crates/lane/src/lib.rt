@@ -4,10 +4,11 @@ mod grouping;
 mod packets;
 
 ghost use mathlib.Core.Path.{_≡_};
-ghost use mathlib.Core.Bool.{true};
+ghost use mathlib.Core.Bool.{_&&_, _||_};
 ghost use Prim.Native.Nat.{_≤_, max};
+ghost use lib.Dec.{eqb, leb};
 ghost use Rattle.octets.specs.Octets.{one};
-ghost use Rattle.lane.specs.Lane.{need, illegal, talliesPossible, fine};
+ghost use Rattle.lane.specs.Lane.{held, need, illegal, talliesPossible, fine};
 ghost use Rattle.lane.specs.Plans.{refusing, packetPlan};
 use grouping::plan_accepted;
 use packet::Packet;
@@ -133,47 +134,59 @@ fn one_if(b: bool) -> u64
 fn are_tallies_possible(l: Lane) -> bool
     ensures { λ r. ⌜ r ≡ talliesPossible l ⌝ }
 {
-    let tallies = Record {
+    if (l.packets as u64) < l.units as u64 + l.broken as u64 + one_if(l.grouped) {
+        return false;
+    }
+    is_possible(Record {
         station: l.settings.station,
         apid: l.settings.apid,
         units: l.units,
         packets: l.packets,
         missing: l.missing,
         broken: l.broken,
-    };
-    is_possible(tallies)
-        & (l.units as u64 + l.broken as u64 + one_if(l.grouped) <= l.packets as u64)
+    })
 }
 
-// Whether the lane is closed and has taken nothing, as most lanes are: such a lane is fine.
-fn is_blank(l: Lane) -> bool
-    ensures { λ r. ⌜ (r ≡ true → fine l ≡ true) ⌝ }
+// Whether what the lane holds is within its cap, and nothing is held without a group. Most lanes hold nothing, which is within every cap.
+fn is_group_fine(l: Lane) -> bool
+    ensures { λ r. ⌜ r ≡ leb (held l) (l .settings .cap) && (l .grouped || eqb (l .octets) 0) ⌝ }
 {
-    if l.opened | l.grouped {
+    if l.octets == 0 {
+        return true;
+    }
+    if l.grouped {
+        return blocks_for(l.octets as usize) <= l.settings.cap as usize;
+    }
+    false
+}
+
+// Whether the lane is as a sound state asks of it, be it open or closed.
+fn is_kept(l: Lane) -> bool
+    ensures { λ r. ⌜ r ≡ leb (l .last) 16383 && (leb (held l) (l .settings .cap) && (l .grouped || eqb (l .octets) 0)) && talliesPossible l ⌝ }
+{
+    if 16383 < l.last {
         return false;
     }
-    (l.settings.apid <= 2046)
-        & (l.units == 0)
-        & (l.packets == 0)
-        & (l.missing == 0)
-        & (l.broken == 0)
-        & (l.last <= 16383)
-        & (l.octets == 0)
+    if is_group_fine(l) {
+        return are_tallies_possible(l);
+    }
+    false
 }
 
-// Whether the lane by itself is as a sound state asks.
+// Whether the lane by itself is as a sound state asks. Every call asks it of eight lanes, so each part is left out where an earlier one fails.
 pub fn is_fine(l: Lane) -> bool
     ensures { λ r. ⌜ r ≡ fine l ⌝ }
 {
-    if is_blank(l) {
-        return true;
+    if !l.opened {
+        if l.grouped {
+            return false;
+        }
+        return is_kept(l);
     }
-    (!l.opened | !is_illegal(l.settings))
-        & (blocks_for(l.octets as usize) <= l.settings.cap as usize)
-        & (l.grouped | (l.octets == 0))
-        & (l.opened | !l.grouped)
-        & (l.last <= 16383)
-        & are_tallies_possible(l)
+    if is_illegal(l.settings) {
+        return false;
+    }
+    is_kept(l)
 }
 
 fn refuse(number: u8) -> Plan

@@ -1,0 +1,101 @@
+-- The clauses of a fine lane in the order in which the code tests them: one that fails decides, and the last is what is left.
+use Prim.Native.Nat.{ℕ, _+_, _≤_, _<_}
+use mathlib.Core.Path.{_≡_, refl, sym, ap, _∙_}
+use mathlib.Core.Bool.{Bool, true, false, not, _&&_, _||_}
+use native.Mathlib.Omega.{arith}
+use lib.Dec.{eqb, leb}
+use borrow.Author.Tests.{le-leb, lt-leb, ne-eqb}
+use Rattle.octets.specs.Octets.{one}
+use Rattle.pool.specs.Blocks.{blocksFor}
+use Rattle.record.specs.Record.{possible}
+use Rattle.lane.specs.declared.Lane.{Lane}
+use Rattle.lane.specs.Lane.{held, illegal, talliesPossible, fine}
+use Rattle.lane.proofs.Tallied.{more-broken}
+
+and-false : (b : Bool) → false ≡ b && false
+and-false true = refl
+and-false false = refl
+
+and-true : (b : Bool) → b ≡ b && true
+and-true true = refl
+and-true false = refl
+
+-- the clause on last goes first, and the one on closed lanes holds
+last-first : (within group last t : Bool) → last && (within && group) && t ≡ within && group && true && last && t
+last-first true true true t = refl
+last-first true true false t = refl
+last-first true false true t = refl
+last-first true false false t = refl
+last-first false group true t = refl
+last-first false group false t = refl
+
+module _ (l : Lane) where
+  abbrev tally : Bool
+  tally = possible (l .settings .apid) (l .units) (l .packets) (l .missing) (l .broken)
+
+  -- ---- the tallies
+  pub too-few-packets : (g : ℕ) → g ≡ one (l .grouped) → l .packets < l .units + l .broken + g → false ≡ talliesPossible l
+  unfolding talliesPossible
+  too-few-packets g e h = rw (more-broken (l .settings .apid) (l .units) (l .packets) (l .missing) (l .broken) (one (l .grouped)), ← e, lt-leb _ _ h) (and-false tally)
+
+  pub enough-packets : (g : ℕ) → g ≡ one (l .grouped) → l .units + l .broken + g ≤ l .packets → (b : Bool) → b ≡ tally → b ≡ talliesPossible l
+  unfolding talliesPossible
+  enough-packets g e h b eb = rw (more-broken (l .settings .apid) (l .units) (l .packets) (l .missing) (l .broken) (one (l .grouped)), ← e, le-leb _ _ h) (eb ∙ and-true tally)
+
+  -- ---- the group
+  abbrev within : Bool
+  within = leb (held l) (l .settings .cap)
+
+  abbrev group : Bool
+  group = l .grouped || eqb (l .octets) 0
+
+  -- no octets need no block, and no group
+  pub no-octets : l .octets ≡ 0 → true ≡ within && group
+  unfolding blocksFor
+  no-octets e = rw (e, le-leb 0 (l .settings .cap) (omega arith)) (anyhow (l .grouped))
+    where
+      anyhow : (b : Bool) → true ≡ b || true
+      anyhow true = refl
+      anyhow false = refl
+
+  pub of-a-group : l .grouped ≡ true → (n : ℕ) → n ≡ held l → leb n (l .settings .cap) ≡ within && group
+  of-a-group e n en = rw (e, en) (and-true within)
+
+  pub of-no-group : l .grouped ≡ false → (l .octets ≡ 0 → ⊥) → false ≡ within && group
+  of-no-group e h = rw (e, ne-eqb (l .octets) 0 h) (and-false within)
+
+  -- ---- what is asked of open and of closed lanes
+  abbrev kept : Bool
+  kept = leb (l .last) 16383 && (within && group) && talliesPossible l
+
+  pub last-over : 16383 < l .last → false ≡ kept
+  last-over h = rw (lt-leb (l .last) 16383 h)
+
+  pub group-fails : l .last ≤ 16383 → (b : Bool) → b ≡ within && group → b ≡ false → false ≡ kept
+  group-fails h b e f = rw (le-leb (l .last) 16383 h, ← e, f)
+
+  pub tallies-decide : l .last ≤ 16383 → (b : Bool) → b ≡ within && group → b ≡ true → (t : Bool) → t ≡ talliesPossible l → t ≡ kept
+  tallies-decide h b e f t et = rw (le-leb (l .last) 16383 h, ← e, f) et
+
+  -- ---- the whole
+  pub not-legal : l .opened ≡ true → (b : Bool) → b ≡ illegal (l .settings) → b ≡ true → false ≡ fine l
+  unfolding fine
+  not-legal o b e f = rw (o, ← e, f)
+
+  pub open-kept : l .opened ≡ true → (b : Bool) → b ≡ illegal (l .settings) → b ≡ false → (k : Bool) → k ≡ kept → k ≡ fine l
+  unfolding fine
+  open-kept o b e f k ek = simp (o, sym e ∙ f) (ek ∙ last-first within group (leb (l .last) 16383) (talliesPossible l))
+
+  pub group-in-closed : l .opened ≡ false → l .grouped ≡ true → false ≡ fine l
+  unfolding fine
+  group-in-closed o g = simp (o, g) (fourth-fails within (leb (l .last) 16383) (talliesPossible l))
+    where
+      fourth-fails : (w e t : Bool) → false ≡ w && true && false && e && t
+      fourth-fails true e t = refl
+      fourth-fails false e t = refl
+
+  pub closed-kept : l .opened ≡ false → l .grouped ≡ false → (k : Bool) → k ≡ kept → k ≡ fine l
+  unfolding fine
+  closed-kept o g k ek =
+      let shut : not (l .grouped) ≡ true = ap not g in
+      simp (o, shut) (ek ∙ last-first within group (leb (l .last) 16383) (talliesPossible l))
