@@ -1,13 +1,12 @@
 // The fields of a record in its octets, and the bound on one of them.
 ghost use mathlib.Core.Path.{_≡_};
-ghost use Prim.Native.Nat.{_≤_};
+ghost use Prim.Native.Nat.{_+_, _≤_, _<_};
 ghost use lib.ListN.{length};
+ghost use Rattle.octets.specs.Octets.{octet, be16, be32};
 ghost use Rattle.octets.specs.Output.{put as puts};
 ghost use Rattle.record.specs.Record.{recordSize, fieldsIn, mostMissing};
 ghost use Rattle.record.specs.Told.{fields, octetsOf};
 use crate::Record;
-use octets::be16_at;
-use octets::be32_at;
 use octets::put_be16;
 use octets::put_be32;
 
@@ -24,17 +23,42 @@ pub(crate) fn most_missing(packets: u32) -> u64
     }
 }
 
+// The octet at index k, which lies within: the length was tested once for all fields, where `octets::octet_at` would test it for each octet.
+fn octet_within(s: &[u8], k: usize) -> u8
+    requires { ⌜ k < length (now s) ⌝ }
+    ensures { λ r. ⌜ r ≡ octet (now (s .entry)) k ⌝ }
+{
+    s[k]
+}
+
+// The number in the two octets from index k on.
+fn be16_within(s: &[u8], k: usize) -> u16
+    requires { ⌜ k + 2 ≤ length (now s) ⌝ }
+    ensures { λ r. ⌜ r ≡ be16 (now (s .entry)) k ⌝ }
+{
+    octet_within(s, k) as u16 * 256 + octet_within(s, k + 1) as u16
+}
+
+// The number in the four octets from index k on.
+fn be32_within(s: &[u8], k: usize) -> u32
+    requires { ⌜ k + 4 ≤ length (now s) ⌝ }
+    ensures { λ r. ⌜ r ≡ be32 (now (s .entry)) k ⌝ }
+{
+    be16_within(s, k) as u32 * 65536 + be16_within(s, k + 2) as u32
+}
+
 // The record at the front of s.
 pub(crate) fn record_in(s: &[u8]) -> Record
+    requires { ⌜ recordSize ≤ length (now s) ⌝ }
     ensures { λ r. ⌜ fields r ≡ fieldsIn (now (s .entry)) ⌝ }
 {
     Record {
-        station: be16_at(s, 0),
-        apid: be16_at(s, 2),
-        units: be32_at(s, 4),
-        packets: be32_at(s, 8),
-        missing: be32_at(s, 12),
-        broken: be32_at(s, 16),
+        station: be16_within(s, 0),
+        apid: be16_within(s, 2),
+        units: be32_within(s, 4),
+        packets: be32_within(s, 8),
+        missing: be32_within(s, 12),
+        broken: be32_within(s, 16),
     }
 }
 
