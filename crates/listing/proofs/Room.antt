@@ -82,7 +82,7 @@ stop-small : (s : List ℕ) (b : Bool) → cond b 0 (refusal (drop (end s) s)) �
 stop-small s true = omega arith
 stop-small s false = refusal-small (drop (end s) s)
 
-listing-room : (s : List ℕ) → length s ≤ 65536 → length (listing s) ≤ 1310752
+pub listing-room : (s : List ℕ) → length s ≤ 65536 → length (listing s) ≤ 1310752
 unfolding listing refusedLine stop
 listing-room s n =
     let r = rises s in
