@@ -1,17 +1,41 @@
--- The digits that the kit spells are n in decimal, by the law `spelled`.
-use mathlib.Core.Path.{_≡_, _∙_}
-use lib.ListN.{take}
+-- There is no room, or room for all digits, of which there are as many as were counted, or for some of them.
+use mathlib.Core.Path.{ap}
+use Prim.Native.Nat.{_+_}
+use native.Mathlib.Omega.{arith}
+use denote.Ref.{now}
+use Rattle.octets.proofs.Puts.{Fits}
 use Rattle.text.specs.Text.{decimal}
-use Rattle.text.proofs.Decimal.{spelled}
+use Rattle.text.proofs.Cut.{nothing-put, all-put}
 use borrow.Author.Needs.{needs}
 use Rattle.text.proofs.put_decimal.Statement.{statement}
 use Rattle.text.proofs.put_decimal.Tie as tie
 
-text : (c : tie.After-decimal) → take (c .decimal .result) (c .decimal .last .1 .0) ≡ decimal (c .before .before .before .args .n)
-text c = c .decimal .ensures .1 .1 ∙ spelled (c .decimal .result) (c .before .before .before .args .n) (c .decimal .ensures .1 .0)
-
 returns : tie.Need-returns
-returns c = rw (← (text (c .before .before .before .before .before))) (c .before .before .put .ensures)
+returns c = let a = c .before .before .args in nothing-put (now (a .out)) (a .at) (decimal (a .n)) (c .if1 .taken)
+
+put-digits-requires : tie.Need-put-digits-requires
+put-digits-requires c κs =
+    let there = c .before .before in
+    (there .digits-of .ensures, omega (arith, c .before .if2 .taken, there .before .if1 .left))
+
+returns-2 : tie.Need-returns-2
+returns-2 c =
+    let there = c .before .before .before .before .before in
+    let a = there .before .before .before .args in
+    let f : Fits (now (a .out)) (a .at) (decimal (a .n)) = omega (arith, there .digits-of .ensures, c .before .before .before .before .if2 .taken, there .before .if1 .left) in
+    all-put (now (a .out)) (a .at) (decimal (a .n)) f (ap (_+_ (a .at)) (there .digits-of .ensures), c .before .before .put-digits .ensures)
 
 pub put-decimal-spec : {M : Type 1} → statement M
-put-decimal-spec = tie.close (tie.spec (λ c κs. search needs) (λ c. search needs) (λ c. search needs) (λ c κs. search needs) (λ c. search needs) returns)
+put-decimal-spec =
+    tie.close
+    (tie.spec
+    returns
+    (λ c κs. search needs)
+    (λ c. search needs)
+    put-digits-requires
+    (λ c. search needs)
+    (λ c. search needs)
+    returns-2
+    (λ c κs. search needs)
+    (λ c. search needs)
+    (λ c. search needs))
