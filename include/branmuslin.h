@@ -3,7 +3,7 @@
  * packets into whole units for up to eight lanes that share one pool of memory.
  *
  * A static library for Linux on x86-64, for programs and shared objects; the flags stand after the source files:
- * cc program.c $(pkg-config --cflags --libs branmuslin). It needs nothing but memcpy and memset, allocates nothing and keeps nothing between calls: the state
+ * cc program.c $(pkg-config --cflags --libs branmuslin). It needs nothing but memcpy, memmove and memset, allocates nothing and keeps nothing between calls: the state
  * of the lanes is a struct that you hand in and get back, and the pool is memory that you lend. Any thread may call it at any time.
  *
  * What holds for every function:
