@@ -2,7 +2,7 @@
 use Prim.Native.Nat.{ℕ, zero, suc, _+_, _≤_, _<_}
 use mathlib.Core.Path.{_≡_, refl, sym, ap, _∙_}
 use mathlib.Core.List.{List, [], _∷_}
-use native.Mathlib.Decide.{ℕ-discrete}
+use native.Mathlib.Decide.{ℕ-discrete, decLt}
 use native.Mathlib.Numerals.{add-one}
 use native.Mathlib.Omega.{arith}
 use borrow.Author.Tests.{eq-eqb, ne-eqb}
@@ -13,6 +13,10 @@ use Rattle.pool.specs.Blocks.{find}
 -- two numbers are the same or differ
 pub by-case : {A : Type 0} (a b : ℕ) → (a ≡ b → A) → ((a ≡ b → ⊥) → A) → A
 by-case a b same differ = elim (ℕ-discrete a b) [ yes e ↦ same e | no d ↦ differ d ]
+
+-- two numbers are in order or not
+pub by-order : {A : Type 0} (a b : ℕ) → (a < b → A) → (b ≤ a → A) → A
+by-order a b less more = elim (decLt a b) [ yes h ↦ less h | no h ↦ more (omega arith) ]
 
 -- the front block
 module _ (o : ℕ) (os : List ℕ) (m : ℕ) where
@@ -63,6 +67,14 @@ pub bears : (marks : List ℕ) (m : ℕ) → find marks m < length marks → get
 bears [] m h = absurd (omega arith)
 bears (o ∷ os) m h =
     by-case o m (λ e. rw (at-front o os m e) e) (λ d. rw (past-front o os m d) (bears os m (omega (arith, past-front o os m d))))
+
+-- a block's mark is found there or before
+pub found-by : (marks : List ℕ) (block : ℕ) → block < length marks → find marks (getD marks block 0) ≤ block
+found-by [] block h = absurd (omega arith)
+found-by (o ∷ os) zero h = omega (arith, at-front o os o refl)
+found-by (o ∷ os) (suc b) h =
+    let m = getD os b 0 in
+    by-case o m (λ e. omega (arith, at-front o os m e)) (λ d. omega (arith, past-front o os m d, found-by os b (omega arith)))
 
 -- two marks are never on one block
 pub never-both : (marks : List ℕ) (m n : ℕ) → (m ≡ n → ⊥) → find marks m < length marks → find marks m ≡ find marks n → ⊥

@@ -3,6 +3,7 @@ pub mod Turns
 pub mod InBlocks
 pub mod Guards
 pub mod Looking
+pub mod Seeing
 pub mod Apart
 pub mod Leaving
 pub mod Counts

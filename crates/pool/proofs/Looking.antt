@@ -1,12 +1,13 @@
--- What carries the tables and the test of the marks: from the highest block down, each turn writes what a search from there on would find.
-use Prim.Native.Nat.{ℕ, suc, _+_, _-_, _*_, _≤_, _<_}
+-- What carries the tables of a lane's blocks and the test of the marks: from the highest block down, each turn writes what a search from there on
+-- would find.
+use Prim.Native.Nat.{ℕ, _+_, _-_, _/_, _%_, _≤_, _<_}
 use mathlib.Core.Path.{_≡_, refl, sym, _∙_}
 use mathlib.Core.Bool.{Bool, true, false, _&&_}
 use mathlib.Core.List.{List, [], _∷_}
-use native.Mathlib.Nat.{zero-add, sub-zero}
+use native.Mathlib.Nat.{zero-add}
 use native.Mathlib.Numerals.{add-one}
 use native.Mathlib.Omega.{arith}
-use borrow.Author.Tests.{le-leb, lt-leb, lt-ltb, le-ltb, eq-eqb, ne-eqb}
+use borrow.Author.Tests.{eq-eqb, ne-eqb}
 use lib.ListN.{length, getD, set, drop, replicate, drop-of-length-le, getD-replicate}
 use lib.Seq.{drop-cons, getD-set-same, getD-set-other}
 use Rattle.pool.specs.Blocks.{mark, find}
@@ -15,72 +16,48 @@ use Rattle.octets.specs.Octets.{one}
 use Rattle.pool.specs.Matching.{found, holds, eachHolds, count, isFree, sum, matching}
 use Rattle.pool.proofs.Finding.{by-case, is-here, is-later, is-nowhere}
 
--- ---- a table of n places, of which place q has the mark `markOf q`: the blocks from `block` on are in it
-abbrev pub ListsFrom : (ℕ → ℕ) → ℕ → ℕ → List ℕ → List ℕ → Type 0
-ListsFrom markOf n block table marks = (q : ℕ) → q < n → getD table q 0 ≡ block + find (drop block marks) (markOf q)
+-- ---- a table of a lane's places: the blocks from `block` on are in it
+abbrev pub ListsFrom : ℕ → ℕ → List ℕ → List ℕ → Type 0
+ListsFrom lane block table marks = (q : ℕ) → q < 64 → getD table q 0 ≡ block + find (drop block marks) (mark lane q)
 
-module _ (markOf : ℕ → ℕ) (n : ℕ) (marks : List ℕ) where
-  pub table-begins : length marks ≡ 64 → ListsFrom markOf n 64 (replicate n 64) marks
-  table-begins e q h = getD-replicate {A = ℕ} n q 64 0 h ∙ omega (arith, is-nowhere marks 64 (markOf q) (omega arith))
+module _ (lane : ℕ) (marks : List ℕ) where
+  pub table-begins : length marks ≡ 64 → ListsFrom lane 64 (replicate 64 64) marks
+  table-begins e q h = getD-replicate {A = ℕ} 64 q 64 0 h ∙ omega (arith, is-nowhere marks 64 (mark lane q) (omega arith))
 
-  pub table-ends : (table : List ℕ) (block : ℕ) → block ≡ 0 → ListsFrom markOf n block table marks → (q : ℕ) → q < n → getD table q 0 ≡ find marks (markOf q)
-  table-ends table block none lists q h = rw none at (lists q h) ∙ zero-add (find marks (markOf q))
+  pub table-ends : (table : List ℕ) (block : ℕ) → block ≡ 0 → ListsFrom lane block table marks → ListsLane lane 0 64 table marks
+  table-ends table block none lists q low high = rw none at (lists q high) ∙ zero-add (find marks (mark lane q))
 
   module _ (table : List ℕ) (block m : ℕ) (some : 0 < block) (in-pool : block ≤ length marks) (e : m ≡ getD marks (block - 1) 0)
-      (lists : ListsFrom markOf n block table marks) where
+      (lists : ListsFrom lane block table marks) where
     -- what a turn leaves of every other mark
-    others : (q : ℕ) → q < n → (markOf q ≡ m → ⊥) → getD table q 0 ≡ block - 1 + find (drop (block - 1) marks) (markOf q)
+    others : (q : ℕ) → q < 64 → (mark lane q ≡ m → ⊥) → getD table q 0 ≡ block - 1 + find (drop (block - 1) marks) (mark lane q)
     others q h d =
         let next : block - 1 + 1 ≡ block = omega arith in
-        let later : find (drop (block - 1) marks) (markOf q) ≡ find (drop block marks) (markOf q) + 1 =
-        rw next at (is-later marks (block - 1) (markOf q) (omega arith) (λ z. d (sym z ∙ sym e))) in
+        let later : find (drop (block - 1) marks) (mark lane q) ≡ find (drop block marks) (mark lane q) + 1 =
+        rw next at (is-later marks (block - 1) (mark lane q) (omega arith) (λ z. d (sym z ∙ sym e))) in
         omega (arith, lists q h)
 
-    -- the block's mark is that of place p alone, or of none
-    pub table-turn : (p : ℕ) → p < length table → markOf p ≡ m → ((q : ℕ) → q < n → markOf q ≡ m → q ≡ p)
-        → ListsFrom markOf n (block - 1) (set table p (block - 1)) marks
-    table-turn p l here alone q h =
-        by-case q p
-        (λ z. rw (z, here) (getD-set-same table p (block - 1) 0 l ∙ omega (arith, is-here marks (block - 1) m (omega arith) (sym e))))
-        (λ d. getD-set-other table p q (block - 1) 0 d ∙ others q h (λ z. d (alone q h z)))
+    pub table-turn : length table ≡ 64 → m / 64 ≡ lane → ListsFrom lane (block - 1) (set table (m % 64) (block - 1)) marks
+    table-turn size own q h =
+        by-case q (m % 64)
+        (λ z.
+        let here : mark lane (m % 64) ≡ m = omega arith in
+        rw (z, here) (getD-set-same table (m % 64) (block - 1) 0 (omega arith) ∙ omega (arith, is-here marks (block - 1) m (omega arith) (sym e))))
+        (λ d. getD-set-other table (m % 64) q (block - 1) 0 d ∙ others q h (λ z. d (omega arith)))
 
-    pub table-keeps : ((q : ℕ) → q < n → markOf q ≡ m → ⊥) → ListsFrom markOf n (block - 1) table marks
-    table-keeps nowhere q h = others q h (nowhere q h)
+    pub table-keeps : (m / 64 ≡ lane → ⊥) → ListsFrom lane (block - 1) table marks
+    table-keeps other q h = others q h (λ z. other (omega arith))
 
--- ---- a table of the places of a lane that were searched for: one more
-pub search-turn : (lane from place v : ℕ) (table marks : List ℕ) → place < length table → v ≡ find marks (mark lane place)
-    → ListsLane lane from place table marks → ListsLane lane from (place + 1) (set table place v) marks
-search-turn lane from place v table marks h e lists q low high =
+-- ---- a table whose entries from `from` on are written one after the other: entry q gets f q
+abbrev pub Written : (ℕ → ℕ) → ℕ → ℕ → List ℕ → Type 0
+Written f from to table = (q : ℕ) → from ≤ q → q < to → getD table q 0 ≡ f q
+
+pub write-turn : (f : ℕ → ℕ) (from place v : ℕ) (table : List ℕ) → place < length table → v ≡ f place → Written f from place table
+    → Written f from (place + 1) (set table place v)
+write-turn f from place v table h e written q low high =
     by-case q place
     (λ z. rw z (getD-set-same table place v 0 h ∙ e))
-    (λ d. getD-set-other table place q v 0 d ∙ lists q low (omega arith))
-
--- ---- one place of a lane after the other
-module _ (marks : List ℕ) (m n place : ℕ) (h : place < n) where
-  one-left : n - place ≡ suc (n - (place + 1))
-  one-left = omega arith
-
-  pub place-found : find marks (m + place) < 64 → found marks (m + place) (n - place) ≡ found marks (m + (place + 1)) (n - (place + 1))
-  unfolding found
-  place-found f =
-      let next : m + place + 1 ≡ m + (place + 1) = omega arith in
-      rw (one-left, lt-ltb (find marks (m + place)) 64 f, next)
-
-  pub place-missing : 64 ≤ find marks (m + place) → found marks (m + place) (n - place) ≡ false
-  unfolding found
-  place-missing f = rw (one-left, le-ltb (find marks (m + place)) 64 f)
-
-pub places-end : (marks : List ℕ) (m n place : ℕ) → n ≤ place → found marks (m + place) (n - place) ≡ true
-unfolding found
-places-end marks m n place h = let none : n - place ≡ 0 = omega arith in rw none
-
-pub places-begin : (marks : List ℕ) (lane n : ℕ) → n ≤ 64 → holds marks lane n ≡ found marks (lane * 64 + 0) (n - 0)
-unfolding holds
-places-begin marks lane n h = rw (le-leb n 64 h, sub-zero n)
-
-pub over-64 : (marks : List ℕ) (lane n : ℕ) → 64 < n → holds marks lane n ≡ false
-unfolding holds
-over-64 marks lane n h = rw (lt-leb n 64 h)
+    (λ d. getD-set-other table place q v 0 d ∙ written q low (omega arith))
 
 -- ---- one lane after the other
 module _ (marks held : List ℕ) (lane : ℕ) (h : lane < length held) where

@@ -13,9 +13,9 @@ use runs::gather_runs;
 use runs::store_runs;
 use search::find_from;
 use search::freed_mark;
-use table::blocks_by_mark;
 use table::count_free;
 use table::each_holds;
+use table::marks_seen;
 use table::sum_held;
 
 pub const BLOCKS: usize = 64;
@@ -97,7 +97,7 @@ pub fn gather_octets(marks: [u16; 64], lane: u8, pool: &[u8], n: usize, out: &mu
     gather_runs(&marks, lane, pool, n, out)
 }
 
-// Whether the marks match what the eight lanes hold. The sum goes first: past it no more than 64 places are looked up, and none if none is held.
+// Whether the marks match what the eight lanes hold. The sum goes first: the table is made only where it is 64 and some block is held.
 pub fn marks_match(marks: [u16; 64], held: [u16; 8]) -> bool
     ensures { λ r. ⌜ r ≡ matching marks held ⌝ }
 {
@@ -108,6 +108,6 @@ pub fn marks_match(marks: [u16; 64], held: [u16; 8]) -> bool
     if in_use == 0 {
         return true;
     }
-    let table = blocks_by_mark(&marks);
-    each_holds(&table, &held)
+    let seen = marks_seen(&marks);
+    each_holds(&seen, &held)
 }

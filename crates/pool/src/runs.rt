@@ -1,20 +1,14 @@
 // The octets of a lane's group, to and from the pool in runs. A run ends where its block does, and a table tells the block.
 ghost use mathlib.Core.Path.{_≡_};
-ghost use Prim.Native.Nat.{_+_, _*_, _/_, _%_, _≤_, _<_, min};
+ghost use Prim.Native.Nat.{_+_, _*_, _/_, _%_, _≤_, _<_};
 ghost use lib.ListN.{length, getD, take, drop};
 ghost use Rattle.octets.specs.Output.{put as puts};
 ghost use Rattle.pool.specs.Octets.{stored, gathered};
 use crate::BLOCK_OCTETS;
 use crate::blocks_for;
 use crate::table::blocks_of_lane;
+use crate::table::smaller;
 use octets::put_octets;
-
-// The smaller of two numbers.
-fn smaller(a: usize, b: usize) -> usize
-    ensures { λ r. ⌜ r ≡ min a b ⌝ }
-{
-    if a <= b { a } else { b }
-}
 
 // Where octet k of a group lies in the pool, in this block.
 fn in_block(block: u8, k: usize) -> usize

@@ -1,9 +1,10 @@
--- The table lists the blocks of these marks, so what was looked up in it is what a search finds.
+-- The table tells which of these marks are seen, so what was counted in it is what a search finds.
 use Prim.Native.Nat.{_+_}
 use mathlib.Core.Path.{_≡_, ap₂, sym, _∙_}
 use native.Mathlib.Omega.{arith}
 use Rattle.pool.specs.Matching.{count, isFree, sum}
 use Rattle.pool.proofs.Looking.{none-held, count-at-most, lanes-decide, sum-decides}
+use Rattle.pool.proofs.Seeing.{seen-flags}
 use borrow.Author.Needs.{needs}
 use Rattle.pool.proofs.marks_match.Statement.{statement}
 use Rattle.pool.proofs.marks_match.Tie as tie
@@ -25,14 +26,17 @@ returns-2 c =
     sym (none-held (start .args .t1) 0 (start .args .t2) (omega (arith, counted .before .before .sum-held .ensures .0, c .if2 .taken)))
     ∙ lanes-decide (start .args .t1) (start .args .t2) (sym (told counted) ∙ c .before .if1 .left)
 
+each-holds-requires : tie.Need-each-holds-requires
+each-holds-requires c κs = let table = c .before .before .marks-seen in (search needs, seen-flags _ (table .result) _ (table .ensures))
+
 returns-3 : tie.Need-returns-3
 returns-3 c =
     let added = c .before .before .before .before .before .before in
     let start = added .before .before .before .before .before in
-    c .each-holds .ensures (start .args .t1) (c .before .before .before .blocks-by-mark .ensures)
+    c .each-holds .ensures (start .args .t1) (c .before .before .before .marks-seen .ensures)
     ∙ lanes-decide (start .args .t1) (start .args .t2) (sym (told (added .before)) ∙ added .if1 .left)
 
 pub marks-match-spec : {M : Type 1} → statement M
 marks-match-spec =
     tie.close
-    (tie.spec (λ c. search needs) (λ c κs. search needs) (λ c. search needs) (λ c κs. search needs) add-if1 returns returns-2 (λ c. search needs) (λ c κs. search needs) (λ c. search needs) (λ c κs. search needs) returns-3)
+    (tie.spec (λ c. search needs) (λ c κs. search needs) (λ c. search needs) (λ c κs. search needs) add-if1 returns returns-2 (λ c. search needs) (λ c κs. search needs) (λ c. search needs) each-holds-requires returns-3)

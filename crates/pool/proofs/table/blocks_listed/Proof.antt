@@ -1,34 +1,32 @@
 -- The loop's invariant is that the table lists the blocks that were passed, from the highest down; `Looking` has its two turns.
-use Prim.Native.Nat.{ℕ, _%_, _≤_}
+use Prim.Native.Nat.{ℕ, _≤_}
 use mathlib.Core.Path.{_≡_}
 use native.Mathlib.Omega.{arith}
 use denote.Ref.{now}
 use lib.ListN.{length, length-set, length-replicate}
-use Rattle.pool.specs.Blocks.{mark}
 use Rattle.pool.proofs.Looking.{ListsFrom, table-begins, table-turn, table-keeps, table-ends}
 use borrow.Author.Needs.{needs}
 use Rattle.pool.proofs.table.blocks_listed.Statement.{statement}
 use Rattle.pool.proofs.table.blocks_listed.Tie as tie
 
 abbrev Inv-loop : tie.InvT-loop
-Inv-loop marks lane table₀ block₀ table block = (block ≤ 64) × (length table ≡ 64) × ListsFrom (mark lane) 64 block table marks
+Inv-loop marks lane table₀ block₀ table block = (block ≤ 64) × (length table ≡ 64) × ListsFrom lane block table marks
 
 abbrev μ-loop : tie.MeasureT-loop
 μ-loop marks lane table₀ block₀ table block = block
 
 loop-holds : tie.Need-loop-holds Inv-loop μ-loop
 loop-holds c =
-    (search needs, length-replicate {A = ℕ} 64 64, table-begins _ _ (now (c .before .args .marks)) (search needs))
+    (search needs, length-replicate {A = ℕ} 64 64, table-begins _ (now (c .before .args .marks)) (search needs))
 
 loop-again : tie.Need-loop-again Inv-loop μ-loop
 loop-again c =
     let read = c .before in
-    let loop = read .before .before .before in
-    let m = read .wide .result in (
+    let loop = read .before .before .before in (
       search needs,
       simp length-set (loop .loop .inv .1),
-      table-turn _ _ (now (loop .before .before .args .marks)) (loop .loop .table) (loop .loop .block) m (read .before .before .loop-test .taken) (search needs) (read .wide .ensures)
-          (loop .loop .inv .2) (m % 64) (search needs) (omega (arith, c .if1 .taken)) (λ q h e. omega (arith, c .if1 .taken)),
+      table-turn _ (now (loop .before .before .args .marks)) (loop .loop .table) (loop .loop .block) (read .wide .result) (read .before .before .loop-test .taken) (search needs)
+          (read .wide .ensures) (loop .loop .inv .2) (loop .loop .inv .1) (omega arith),
     )
 
 loop-again-2 : tie.Need-loop-again-2 Inv-loop μ-loop
@@ -37,12 +35,12 @@ loop-again-2 c =
     let loop = read .before .before .before in (
       search needs,
       search needs,
-      table-keeps _ _ (now (loop .before .before .args .marks)) (loop .loop .table) (loop .loop .block) (read .wide .result) (read .before .before .loop-test .taken) (search needs)
-          (read .wide .ensures) (loop .loop .inv .2) (λ q h e. c .if1 .left (omega arith)),
+      table-keeps _ (now (loop .before .before .args .marks)) (loop .loop .table) (loop .loop .block) (read .wide .result) (read .before .before .loop-test .taken) (search needs)
+          (read .wide .ensures) (loop .loop .inv .2) (c .if1 .left),
     )
 
 returns : tie.Need-returns Inv-loop μ-loop
-returns c = λ q from to. table-ends _ _ _ (c .before .loop .table) (c .before .loop .block) (omega arith) (c .before .loop .inv .2) q to
+returns c = table-ends _ _ (c .before .loop .table) (c .before .loop .block) (omega arith) (c .before .loop .inv .2)
 
 pub blocks-listed-spec : {M : Type 1} → statement M
 blocks-listed-spec =

@@ -4,10 +4,10 @@ use mathlib.Core.Path.{_≡_}
 use native.Mathlib.Omega.{arith}
 use denote.Ref.{now}
 use lib.ListN.{length, length-set, length-replicate}
-use Rattle.pool.specs.Blocks.{mark}
+use Rattle.pool.specs.Blocks.{mark, find}
 use Rattle.pool.specs.Lookup.{ListsLane}
 use Rattle.pool.proofs.Finding.{at-most}
-use Rattle.pool.proofs.Looking.{search-turn}
+use Rattle.pool.proofs.Looking.{write-turn}
 use borrow.Author.Needs.{needs}
 use Rattle.pool.proofs.table.blocks_searched.Statement.{statement}
 use Rattle.pool.proofs.table.blocks_searched.Tie as tie
@@ -34,7 +34,7 @@ loop-again c =
     let start = loop .before .before in (
       search needs,
       simp length-set (loop .loop .inv .1),
-      search-turn _ _ (loop .loop .place) _ (loop .loop .table) (now (start .args .marks)) (search needs) (omega (arith, c .find-from .ensures)) (loop .loop .inv .2),
+      write-turn (λ q. find (now (start .args .marks)) (mark (start .args .lane) q)) _ (loop .loop .place) _ (loop .loop .table) (search needs) (omega (arith, c .find-from .ensures)) (loop .loop .inv .2),
     )
 
 returns : tie.Need-returns Inv-loop μ-loop

@@ -4,7 +4,7 @@ use mathlib.Core.Path.{_≡_, refl, sym, ap, _∙_}
 use mathlib.Core.List.{List}
 use denote.Ref.{now}
 use lib.ListN.{getD, drop}
-use Rattle.pool.specs.Lookup.{Lists}
+use Rattle.pool.specs.Lookup.{Seen}
 use Rattle.pool.specs.Matching.{holds, eachHolds}
 use Rattle.pool.proofs.Looking.{lane-good, lane-bad, lanes-end}
 use borrow.Author.Needs.{needs}
@@ -12,36 +12,36 @@ use Rattle.pool.proofs.table.each_holds.Statement.{statement}
 use Rattle.pool.proofs.table.each_holds.Tie as tie
 
 abbrev Inv-loop : tie.InvT-loop
-Inv-loop table held lane₀ lane = (lane ≤ 8) × ((marks : List ℕ) → Lists table marks → eachHolds marks 0 held ≡ eachHolds marks lane (drop lane held))
+Inv-loop seen held lane₀ lane = (lane ≤ 8) × ((marks : List ℕ) → Seen 64 seen marks → eachHolds marks 0 held ≡ eachHolds marks lane (drop lane held))
 
 abbrev μ-loop : tie.MeasureT-loop
-μ-loop table held lane₀ lane = 8 - lane
+μ-loop seen held lane₀ lane = 8 - lane
 
 loop-holds : tie.Need-loop-holds Inv-loop μ-loop
-loop-holds c = (search needs, λ marks lists. refl)
+loop-holds c = (search needs, λ marks is. refl)
 
 -- what was found of the lane that the loop is at
-told : (c : tie.After-lane-holds Inv-loop μ-loop) (marks : List ℕ) → Lists (now (c .before .before .before .before .before .before .args .table)) marks
+told : (c : tie.After-lane-holds Inv-loop μ-loop) (marks : List ℕ) → Seen 64 (now (c .before .before .before .before .before .before .args .seen)) marks
     → holds marks (c .before .before .before .before .loop .lane) (getD (now (c .before .before .before .before .before .before .args .held)) (c .before .before .before .before .loop .lane) 0) ≡ c .lane-holds .result
-told c marks lists = sym (c .lane-holds .ensures marks lists ∙ ap (holds marks (c .before .before .before .before .loop .lane)) (c .before .wide .ensures))
+told c marks is = sym (c .lane-holds .ensures marks is ∙ ap (holds marks (c .before .before .before .before .loop .lane)) (c .before .wide .ensures))
 
 loop-again : tie.Need-loop-again Inv-loop μ-loop
 loop-again c =
     let loop = c .before .before .before .before .before in (
       search needs,
-      λ marks lists.
-          loop .loop .inv .1 marks lists ∙ lane-good marks (now (loop .before .before .args .held)) (loop .loop .lane) (search needs) (told (c .before) marks lists ∙ c .if1 .taken),
+      λ marks is.
+          loop .loop .inv .1 marks is ∙ lane-good marks (now (loop .before .before .args .held)) (loop .loop .lane) (search needs) (told (c .before) marks is ∙ c .if1 .taken),
     )
 
 returns : tie.Need-returns Inv-loop μ-loop
 returns c =
     let loop = c .before .before .before .before .before in
-    λ marks lists.
-    sym (loop .loop .inv .1 marks lists ∙ lane-bad marks (now (loop .before .before .args .held)) (loop .loop .lane) (search needs) (told (c .before) marks lists ∙ c .if1 .left))
+    λ marks is.
+    sym (loop .loop .inv .1 marks is ∙ lane-bad marks (now (loop .before .before .args .held)) (loop .loop .lane) (search needs) (told (c .before) marks is ∙ c .if1 .left))
 
 returns-2 : tie.Need-returns-2 Inv-loop μ-loop
 returns-2 c =
-    λ marks lists. sym (c .before .loop .inv .1 marks lists ∙ lanes-end marks (now (c .before .before .before .args .held)) (c .before .loop .lane) (search needs))
+    λ marks is. sym (c .before .loop .inv .1 marks is ∙ lanes-end marks (now (c .before .before .before .args .held)) (c .before .loop .lane) (search needs))
 
 pub each-holds-spec : {M : Type 1} → statement M
 each-holds-spec =
