@@ -14,8 +14,7 @@ use Rattle.pool.proofs.InBlocks.{gathered-at-most}
 use Rattle.lane.specs.declared.Lane.{Lane}
 use Rattle.lane.specs.declared.Added.{Added}
 use Rattle.lane.specs.declared.Step.the-variants as step
-use Rattle.lane.specs.Steps.{counted, laneAfter}
-use Rattle.intake.specs.After.{releasedFrom, grown, groupOf, marksAfter, poolAfter, outAfter, keptAfter}
+use Rattle.intake.specs.After.{grown, groupOf, poolAfter, outAfter}
 use Rattle.intake.specs.Ready.{Holds, Ends}
 
 module _ (marks : List ℕ) (i : ℕ) (l : Lane) (on : Bool) (pool out : List ℕ) where
@@ -35,32 +34,19 @@ unfolding groupOf
 group-most marks i l true pool = gathered-at-most marks i pool 0 (l .octets)
 group-most marks i l false pool = omega arith
 
--- ---- each step, from what its function worked out: the marks m and the lane k after it
-module _ (marks : List ℕ) (i : ℕ) (l : Lane) (a : Added) where
-  pub strayed : (k : Lane) → k ≡ counted l a 0 false 0 → (m : List ℕ) → m ≡ releasedFrom marks i l → record { lane = k; marks = m } ≡ keptAfter marks i l (step.Stray a)
-  unfolding laneAfter marksAfter
-  strayed k ek m em = rw (ek, em)
+-- ---- what is stored and put, from what the functions below worked out
+module _ (marks : List ℕ) (i : ℕ) (l : Lane) (a : Added) (on : Bool) (n : ℕ) where
+  pub held-pool : (u pool : List ℕ) → Holds i l a on n (length u) (length pool) → (m : List ℕ) → m ≡ grown marks i l on n → (b : ℕ) → b ≡ cond on (l .octets) 0
+      → (after : List ℕ) → after ≡ storedIfFits m i pool b u → after ≡ poolAfter marks i l (step.Hold a on n) u pool
+  unfolding poolAfter
+  held-pool u pool (c, size, most, few, p) m em b eb after e = e ∙ sym (is-stored m i pool b u p (omega (arith, size, most, eb))) ∙ rw (em, eb)
 
-  module _ (on : Bool) (n : ℕ) where
-    pub held-kept : (k : Lane) → k ≡ counted l a 0 true n → (m : List ℕ) → m ≡ grown marks i l on n → record { lane = k; marks = m } ≡ keptAfter marks i l (step.Hold a on n)
-    unfolding laneAfter marksAfter
-    held-kept k ek m em = rw (ek, em)
-
-    pub held-pool : (u pool : List ℕ) → Holds i l a on n (length u) (length pool) → (m : List ℕ) → m ≡ grown marks i l on n → (b : ℕ) → b ≡ cond on (l .octets) 0
-        → (after : List ℕ) → after ≡ storedIfFits m i pool b u → after ≡ poolAfter marks i l (step.Hold a on n) u pool
-    unfolding poolAfter
-    held-pool u pool (c, size, most, few, p) m em b eb after e = e ∙ sym (is-stored m i pool b u p (omega (arith, size, most, eb))) ∙ rw (em, eb)
-
-    pub unit-kept : (k : Lane) → k ≡ counted l a 1 false 0 → (m : List ℕ) → m ≡ releasedFrom marks i l → record { lane = k; marks = m } ≡ keptAfter marks i l (step.Unit a on n)
-    unfolding laneAfter marksAfter
-    unit-kept k ek m em = rw (ek, em)
-
-    pub unit-out : (u pool out : List ℕ) → Ends i l a on n (length u) (length out) → (at : ℕ) → at ≡ length (groupOf marks i l on pool)
-        → (mid : List ℕ) → mid ≡ put out 0 (groupOf marks i l on pool) → (after : List ℕ) → after ≡ putIfFits mid at u
-        → after ≡ outAfter marks i l (step.Unit a on n) u pool out
-    unfolding outAfter
-    unit-out u pool out (c, size, room, few) at ea mid em after e =
-        let g = groupOf marks i l on pool in
-        let most : length g ≤ cond on (l .octets) 0 = group-most marks i l on pool in
-        let fits : 0 + length (g ++ u) ≤ length out = omega (arith, length-append g u, most, size, room) in
-        then-put out 0 g u fits {out = mid} {out′ = after} {to = at} {to′ = at + length u} refl (omega (arith, ea), em) e .1
+  pub unit-out : (u pool out : List ℕ) → Ends i l a on n (length u) (length out) → (at : ℕ) → at ≡ length (groupOf marks i l on pool)
+      → (mid : List ℕ) → mid ≡ put out 0 (groupOf marks i l on pool) → (after : List ℕ) → after ≡ putIfFits mid at u
+      → after ≡ outAfter marks i l (step.Unit a on n) u pool out
+  unfolding outAfter
+  unit-out u pool out (c, size, room, few) at ea mid em after e =
+      let g = groupOf marks i l on pool in
+      let most : length g ≤ cond on (l .octets) 0 = group-most marks i l on pool in
+      let fits : 0 + length (g ++ u) ≤ length out = omega (arith, length-append g u, most, size, room) in
+      then-put out 0 g u fits {out = mid} {out′ = after} {to = at} {to′ = at + length u} refl (omega (arith, ea), em) e .1

@@ -20,7 +20,6 @@ use Rattle.intake.specs.declared.Changed.{Changed}
 use Rattle.intake.specs.declared.Answer.{Answer}
 use Rattle.intake.specs.declared.Answer.the-variants as answer
 use Rattle.intake.specs.declared.Answered.{Answered}
-use Rattle.intake.specs.declared.taking.Kept.{Kept}
 use Rattle.intake.specs.State.{laneAt}
 use Rattle.intake.specs.Calls.{openingRefusal, closingRefusal, packetStep}
 
@@ -100,10 +99,6 @@ answerOf step.Repeat = answer.Repeat
 answerOf (step.Stray a) = answer.Stray (a .missing) (a .broke)
 answerOf (step.Hold a on n) = answer.Held (a .missing) (a .broke)
 answerOf (step.Unit a on n) = answer.Unit n (a .missing) (a .broke)
-
--- the lane and the marks after step d
-abbrev pub keptAfter : List ℕ → ℕ → Lane → Step → Kept
-keptAfter marks i l d = record { lane = laneAfter l d; marks = marksAfter marks i l d }
 
 -- the answer and the state after step d in lane i
 abbrev pub answered : State → ℕ → Step → Answered

@@ -31,14 +31,12 @@ pub(crate) fn credit_of(l: Lane) -> Record
     }
 }
 
-// The marks without those of the lane's group, if it has one.
-pub(crate) fn released(marks: [u16; 64], lane: usize, l: Lane) -> [u16; 64]
+// Frees the blocks of the lane's group, if it has one.
+pub(crate) fn release(marks: &mut [u16; 64], lane: usize, l: Lane)
     requires { ⌜ lane < 8 ⌝ }
-    ensures { λ r. ⌜ r ≡ releasedFrom marks lane l ⌝ }
+    ensures { λ _. ⌜ now (marks .exit) ≡ releasedFrom (now (marks .entry)) lane l ⌝ }
 {
     if l.grouped {
-        free_blocks(marks, lane as u8)
-    } else {
-        marks
+        *marks = free_blocks(*marks, lane as u8);
     }
 }

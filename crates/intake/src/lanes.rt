@@ -1,19 +1,24 @@
 // The eight lanes: one of them, and what they come to in all.
 ghost use mathlib.Core.Path.{_≡_};
-ghost use mathlib.Core.List.{map};
 ghost use Prim.Native.Nat.{_≤_};
 ghost use lib.ListN.{length, getD, set};
 ghost use Rattle.pool.specs.Blocks.{blocksFor};
-ghost use Rattle.lane.specs.Lane.{closed, held, fine};
-ghost use Rattle.intake.specs.State.{total, every};
+ghost use Rattle.lane.specs.Lane.{closed};
+ghost use Rattle.intake.specs.State.{total};
 ghost use Rattle.intake.specs.After.{openedWith, withLane};
 use crate::State;
 use lane::CLOSED;
 use lane::Lane;
 use lane::Settings;
-use lane::is_fine;
 use lane::need_of;
 use pool::blocks_for;
+
+// How many lanes there are. The array that is passed whole tells its length, which a field does not.
+pub(crate) fn count_of(lanes: [Lane; 8]) -> usize
+    ensures { λ r. ⌜ (r ≡ 8) × (length lanes ≡ 8) ⌝ }
+{
+    8
+}
 
 // A lane by its number, and a closed one for a number over 7. The array that is passed whole tells its length, which a field does not.
 pub(crate) fn lane_at(lanes: [Lane; 8], i: usize) -> Lane
@@ -53,20 +58,6 @@ pub(crate) fn opened_with(settings: Settings) -> Lane
     l
 }
 
-// Whether each lane by itself is as a sound state asks.
-pub(crate) fn are_fine(lanes: [Lane; 8]) -> bool
-    ensures { λ r. ⌜ r ≡ every fine lanes ⌝ }
-{
-    let mut i = 0;
-    while i < 8 {
-        if !is_fine(lanes[i]) {
-            return false;
-        }
-        i += 1;
-    }
-    true
-}
-
 // What the open lanes hold or are promised.
 pub(crate) fn total_of(lanes: [Lane; 8]) -> usize
     ensures { λ r. ⌜ (r ≡ total lanes) × (r ≤ 2048) ⌝ }
@@ -81,21 +72,8 @@ pub(crate) fn total_of(lanes: [Lane; 8]) -> usize
 }
 
 // The blocks of a lane's group; octets of 16 bits have at most 256.
-fn blocks_of(octets: u16) -> u16
+pub(crate) fn blocks_of(octets: u16) -> u16
     ensures { λ r. ⌜ r ≡ blocksFor octets ⌝ }
 {
     blocks_for(octets as usize) as u16
-}
-
-// The blocks that each lane holds.
-pub(crate) fn held_by(lanes: [Lane; 8]) -> [u16; 8]
-    ensures { λ r. ⌜ r ≡ map held lanes ⌝ }
-{
-    let mut blocks = [0u16; 8];
-    let mut i = 0;
-    while i < 8 {
-        blocks[i] = blocks_of(lanes[i].octets);
-        i += 1;
-    }
-    blocks
 }

@@ -5,19 +5,22 @@ mod taking;
 
 ghost use mathlib.Core.Path.{_≡_};
 ghost use lib.ListN.{length};
-ghost use Rattle.intake.specs.State.{freshState, sound, unsound};
+ghost use Rattle.intake.specs.State.{freshState, laneAt, sound, unsound};
 ghost use Rattle.intake.specs.Calls.{packetStep};
 ghost use Rattle.intake.specs.Told.{told, telling};
 ghost use Rattle.intake.specs.After.{refusedChange, opening, closing, closingOut, taking, takingPool, takingOut};
 use closing::credit_of;
-use closing::released;
+use closing::release;
 use lane::CLOSED;
 use lane::Lane;
 use lane::Settings;
+use lane::Step;
+use lane::is_fine;
 use lane::is_illegal;
+use lane::need_of;
 use lane::plan_packet;
-use lanes::are_fine;
-use lanes::held_by;
+use lanes::blocks_of;
+use lanes::count_of;
 use lanes::lane_at;
 use lanes::opened_with;
 use lanes::total_of;
@@ -83,18 +86,31 @@ pub fn fresh_start() -> State
     }
 }
 
-// Whether the state is sound.
+// Whether the state is sound. One pass over the lanes tells whether each is fine, what they come to and what they hold.
 pub fn is_sound(s: State) -> bool
     ensures { λ r. ⌜ r ≡ sound s ⌝ }
 {
     let lanes = s.lanes;
-    let marks = s.marks;
-    if are_fine(lanes) {
-        if total_of(lanes) <= MOST {
-            return marks_match(marks, held_by(lanes));
+    let count = count_of(lanes);
+    let mut held = [0u16; 8];
+    let mut total = 0;
+    let mut i = 0;
+    while i < count {
+        let l = lanes[i];
+        if !is_fine(l) {
+            return false;
         }
+        total += need_of(l);
+        if l.octets != 0 {
+            held[i] = blocks_of(l.octets);
+        }
+        i += 1;
     }
-    false
+    if MOST < total {
+        return false;
+    }
+    let marks = s.marks;
+    marks_match(marks, held)
 }
 
 // Whether a call is refused by 24.
@@ -144,7 +160,19 @@ pub fn open_lane(s: State, lane: usize, settings: Settings, pool: &[u8]) -> Chan
     }
 }
 
-// Gives a packet to a lane.
+// What a packet comes to in lane l, which has the number.
+fn step_of(s: State, l: Lane, lane: usize, octets: &[u8], size: usize, room: usize) -> Step
+    requires { ⌜ l ≡ laneAt s lane ⌝ }
+    ensures { λ r. ⌜ r ≡ packetStep s lane (now (octets .entry)) size room ⌝ }
+{
+    if is_unsound(s, size) {
+        return Step::Refuse(24);
+    }
+    let lanes = s.lanes;
+    settled(lanes, lane, plan_packet(l, octets, room))
+}
+
+// Gives a packet to a lane. The state is copied once, and the lane and the marks are changed in their places.
 pub fn take_packet(
     s: State,
     lane: usize,
@@ -157,22 +185,23 @@ pub fn take_packet(
     ensures { λ _. ⌜ now (pool .exit) ≡ takingPool s lane (now (octets .entry)) (length (now (out .entry))) (now (pool .entry)) ⌝ }
     ensures { λ _. ⌜ now (out .exit) ≡ takingOut s lane (now (octets .entry)) (now (pool .entry)) (now (out .entry)) ⌝ }
 {
-    if is_unsound(s, pool.len()) {
-        return Answered {
-            answer: Answer::Refused(24),
-            state: s,
-        };
-    }
+    let mut after = s;
     let lanes = s.lanes;
-    let marks = s.marks;
-    let l = lane_at(lanes, lane);
-    let step = settled(lanes, lane, plan_packet(l, octets, out.len()));
+    let count = count_of(lanes);
+    let l = if lane < count {
+        after.lanes[lane]
+    } else {
+        CLOSED
+    };
+    let step = step_of(s, l, lane, octets, pool.len(), out.len());
     let user = user_part(octets, l.settings.secondary);
-    let kept = carry_out(l, marks, lane, step, user, pool, out);
-    let marks = kept.marks;
+    let next = carry_out(l, &mut after.marks, lane, step, user, pool, out);
+    if lane < count {
+        after.lanes[lane] = next;
+    }
     Answered {
         answer: answer_of(step),
-        state: with_lane(s, lane, kept.lane, marks),
+        state: after,
     }
 }
 
@@ -192,8 +221,8 @@ pub fn close_lane(s: State, lane: usize, pool: &[u8], out: &mut [u8]) -> Changed
     match write_record(credit_of(l), out) {
         RecordWritten::Refused(number) => refused(s, number),
         RecordWritten::Octets(_) => {
-            let marks = s.marks;
-            let marks = released(marks, lane, l);
+            let mut marks = s.marks;
+            release(&mut marks, lane, l);
             Changed {
                 refusal: 0,
                 state: with_lane(s, lane, CLOSED, marks),

@@ -9,15 +9,15 @@ ghost use Rattle.octets.specs.Output.{put as puts};
 ghost use Rattle.pool.specs.Blocks.{poolOctets};
 ghost use Rattle.lane.specs.declared.Step.the-variants.{Stray, Hold, Unit};
 ghost use Rattle.lane.specs.Lane.{fine};
-ghost use Rattle.lane.specs.Steps.{counted};
+ghost use Rattle.lane.specs.Steps.{counted, laneAfter};
 ghost use Rattle.intake.specs.State.{others};
 ghost use Rattle.intake.specs.Calls.{settle};
-ghost use Rattle.intake.specs.After.{grown, groupOf, keptAfter, answerOf, poolAfter, outAfter};
+ghost use Rattle.intake.specs.After.{grown, groupOf, answerOf, marksAfter, poolAfter, outAfter};
 ghost use Rattle.intake.specs.Ready.{Counts, Holds, Ends, Ready};
 use crate::Answer;
 use crate::MOST;
 use crate::closing::one_if;
-use crate::closing::released;
+use crate::closing::release;
 use crate::lanes::total_of;
 use crate::lanes::with_one;
 use lane::Added;
@@ -31,12 +31,6 @@ use pool::blocks_for;
 use pool::gather_octets;
 use pool::grant_blocks;
 use pool::store_octets;
-
-// A lane and the marks after a step.
-pub(crate) struct Kept {
-    pub(crate) lane: Lane,
-    pub(crate) marks: [u16; 64],
-}
 
 // What the other lanes hold or are promised.
 fn others_of(lanes: [Lane; 8], i: usize) -> usize
@@ -105,17 +99,19 @@ fn count_in(l: Lane, a: Added, units: u32, grouped: bool, octets: u16) -> Lane
     }
 }
 
-// The marks once the group has n octets.
-fn grow(marks: [u16; 64], lane: usize, l: Lane, joins: bool, n: usize) -> [u16; 64]
+// The marks become those of a group with n octets.
+fn grow(marks: &mut [u16; 64], lane: usize, l: Lane, joins: bool, n: usize)
     requires { ⌜ (lane < 8) × (n ≤ poolOctets) × (cond joins (l .octets) 0 ≤ n) ⌝ }
-    ensures { λ r. ⌜ r ≡ grown marks lane l joins n ⌝ }
+    ensures { λ _. ⌜ now (marks .exit) ≡ grown (now (marks .entry)) lane l joins n ⌝ }
 {
     let need = blocks_for(n);
     if joins {
         let have = blocks_for(l.octets as usize);
-        return grant_blocks(marks, lane as u8, have as u8, (need - have) as u8);
+        *marks = grant_blocks(*marks, lane as u8, have as u8, (need - have) as u8);
+    } else {
+        release(marks, lane, l);
+        *marks = grant_blocks(*marks, lane as u8, 0, need as u8);
     }
-    grant_blocks(released(marks, lane, l), lane as u8, 0, need as u8)
 }
 
 // Where the user data begins in the group.
@@ -128,24 +124,22 @@ fn start_of(octets: u16, joins: bool) -> usize
 // The packet begins a group or is added to it: n octets with its user data.
 fn hold(
     l: Lane,
-    marks: [u16; 64],
+    marks: &mut [u16; 64],
     lane: usize,
     a: Added,
     joins: bool,
     n: usize,
     user: &[u8],
     pool: &mut [u8],
-) -> Kept
+) -> Lane
     requires { ⌜ Holds lane l a joins n (length (now user)) (length (now pool)) ⌝ }
-    ensures { λ r. ⌜ r ≡ keptAfter marks lane l (Hold a joins n) ⌝ }
-    ensures { λ _. ⌜ now (pool .exit) ≡ poolAfter marks lane l (Hold a joins n) (now (user .entry)) (now (pool .entry)) ⌝ }
+    ensures { λ r. ⌜ r ≡ laneAfter l (Hold a joins n) ⌝ }
+    ensures { λ _. ⌜ now (marks .exit) ≡ marksAfter (now (marks .entry)) lane l (Hold a joins n) ⌝ }
+    ensures { λ _. ⌜ now (pool .exit) ≡ poolAfter (now (marks .entry)) lane l (Hold a joins n) (now (user .entry)) (now (pool .entry)) ⌝ }
 {
-    let after = grow(marks, lane, l, joins, n);
-    store_octets(after, lane as u8, pool, start_of(l.octets, joins), user);
-    Kept {
-        lane: count_in(l, a, 0, true, n as u16),
-        marks: after,
-    }
+    grow(marks, lane, l, joins, n);
+    store_octets(*marks, lane as u8, pool, start_of(l.octets, joins), user);
+    count_in(l, a, 0, true, n as u16)
 }
 
 // Puts the group that goes on at the front of out, and tells its octets.
@@ -170,7 +164,7 @@ fn put_group(
 // The packet ends a unit: the group that goes on and its user data, which fit the output.
 fn end_unit(
     l: Lane,
-    marks: [u16; 64],
+    marks: &mut [u16; 64],
     lane: usize,
     a: Added,
     joins: bool,
@@ -178,48 +172,47 @@ fn end_unit(
     user: &[u8],
     pool: &[u8],
     out: &mut [u8],
-) -> Kept
+) -> Lane
     requires { ⌜ Ends lane l a joins n (length (now user)) (length (now out)) ⌝ }
-    ensures { λ r. ⌜ r ≡ keptAfter marks lane l (Unit a joins n) ⌝ }
-    ensures { λ _. ⌜ now (out .exit) ≡ outAfter marks lane l (Unit a joins n) (now (user .entry)) (now (pool .entry)) (now (out .entry)) ⌝ }
+    ensures { λ r. ⌜ r ≡ laneAfter l (Unit a joins n) ⌝ }
+    ensures { λ _. ⌜ now (marks .exit) ≡ marksAfter (now (marks .entry)) lane l (Unit a joins n) ⌝ }
+    ensures { λ _. ⌜ now (out .exit) ≡ outAfter (now (marks .entry)) lane l (Unit a joins n) (now (user .entry)) (now (pool .entry)) (now (out .entry)) ⌝ }
 {
-    let at = put_group(marks, lane, l, joins, pool, out);
+    let at = put_group(*marks, lane, l, joins, pool, out);
     put_octets(out, at, user);
-    Kept {
-        lane: count_in(l, a, 1, false, 0),
-        marks: released(marks, lane, l),
-    }
+    release(marks, lane, l);
+    count_in(l, a, 1, false, 0)
 }
 
 // The packet belongs to no group.
-fn stray(l: Lane, marks: [u16; 64], lane: usize, a: Added) -> Kept
+fn stray(l: Lane, marks: &mut [u16; 64], lane: usize, a: Added) -> Lane
     requires { ⌜ Counts lane l a 0 false 0 ⌝ }
-    ensures { λ r. ⌜ r ≡ keptAfter marks lane l (Stray a) ⌝ }
+    ensures { λ r. ⌜ r ≡ laneAfter l (Stray a) ⌝ }
+    ensures { λ _. ⌜ now (marks .exit) ≡ marksAfter (now (marks .entry)) lane l (Stray a) ⌝ }
 {
-    Kept {
-        lane: count_in(l, a, 0, false, 0),
-        marks: released(marks, lane, l),
-    }
+    release(marks, lane, l);
+    count_in(l, a, 0, false, 0)
 }
 
-// Takes the step.
+// Takes the step, and tells the lane after it. The marks stay where they are, unless the step changes them.
 pub(crate) fn carry_out(
     l: Lane,
-    marks: [u16; 64],
+    marks: &mut [u16; 64],
     lane: usize,
     step: Step,
     user: &[u8],
     pool: &mut [u8],
     out: &mut [u8],
-) -> Kept
+) -> Lane
     requires { ⌜ Ready lane l step (length (now user)) (length (now pool)) (length (now out)) ⌝ }
-    ensures { λ r. ⌜ r ≡ keptAfter marks lane l step ⌝ }
-    ensures { λ _. ⌜ now (pool .exit) ≡ poolAfter marks lane l step (now (user .entry)) (now (pool .entry)) ⌝ }
-    ensures { λ _. ⌜ now (out .exit) ≡ outAfter marks lane l step (now (user .entry)) (now (pool .entry)) (now (out .entry)) ⌝ }
+    ensures { λ r. ⌜ r ≡ laneAfter l step ⌝ }
+    ensures { λ _. ⌜ now (marks .exit) ≡ marksAfter (now (marks .entry)) lane l step ⌝ }
+    ensures { λ _. ⌜ now (pool .exit) ≡ poolAfter (now (marks .entry)) lane l step (now (user .entry)) (now (pool .entry)) ⌝ }
+    ensures { λ _. ⌜ now (out .exit) ≡ outAfter (now (marks .entry)) lane l step (now (user .entry)) (now (pool .entry)) (now (out .entry)) ⌝ }
 {
     match step {
-        Step::Refuse(_) => Kept { lane: l, marks },
-        Step::Repeat => Kept { lane: l, marks },
+        Step::Refuse(_) => l,
+        Step::Repeat => l,
         Step::Stray(a) => stray(l, marks, lane, a),
         Step::Hold {
             added,

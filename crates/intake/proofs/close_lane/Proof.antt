@@ -21,10 +21,12 @@ credit-of-requires : tie.Need-credit-of-requires
 credit-of-requires c κs =
     rw (c .before .before .lane-at .ensures .0) (lane-fine (c .before .before .before .before .before .before .before .before .args .s) (then-sound _ _ (sym (c .before .before .before .before .before .is-unsound .ensures) ∙ c .before .before .before .before .if1 .left) .0) (c .before .before .before .before .before .before .before .before .args .lane))
 
-released-requires : tie.Need-released-requires
-released-requires c κs =
-    let s = c .before .before .before .before .before .before .before .before .before .before .before .before .before .before .before .before .args in
-    opened-small (s .s .lanes) (c .before .before .before .before .before .before .before .before .before .before .lane-at .ensures .1) (s .lane) (ap (λ (l : Lane). l .opened) (sym (c .before .before .before .before .before .before .before .before .before .before .lane-at .ensures .0)) ∙ not-false _ (c .before .before .before .before .before .before .before .before .if2 .left))
+release-requires : tie.Need-release-requires
+release-requires c κs =
+    let opened = c .before .before .before .before .before .before .before .before .before in
+    let found = opened .before .before in
+    let s = found .before .before .before .before .before .before .args in
+    opened-small (s .s .lanes) (found .lane-at .ensures .1) (s .lane) (ap (λ (l : Lane). l .opened) (sym (found .lane-at .ensures .0)) ∙ not-false _ (opened .if2 .left))
 
 returns-3 : tie.Need-returns-3
 returns-3 c =
@@ -34,9 +36,14 @@ returns-3 c =
 
 returns-4 : tie.Need-returns-4
 returns-4 c =
-    let s = c .before .before .before .before .before .before .before .before .before .before .before .before .before .before .before .before .before .before .args in
-    closes (s .s) (s .lane) _ (now (s .out)) _ (c .before .before .before .before .before .before .before .before .before .before .before .before .before .before .before .is-unsound .ensures) (c .before .before .before .before .before .before .before .before .before .before .before .before .before .before .if1 .left) _ (c .before .before .before .before .before .before .before .before .before .before .before .before .lane-at .ensures .0) (c .before .before .before .before .before .before .before .before .before .before .if2 .left) _ (c .before .before .before .before .before .before .before .before .before .credit-of .ensures)
-    _ (c .before .before .before .before .before .before .before .write-record .ensures .0) _ (c .before .before .before .enum-told .given .1) _ (c .before .before .before .before .before .before .before .write-record .ensures .1) _ (c .before .released .ensures) _ (c .with-lane .ensures)
+    let chosen = c .before .before .before .before in
+    let written = chosen .before .before .before .before in
+    let credited = written .before .before in
+    let found = credited .before .before .before in
+    let asked = found .before .before .before in
+    let s = asked .before .before .before .args in
+    closes (s .s) (s .lane) _ (now (s .out)) _ (asked .is-unsound .ensures) (found .before .before .if1 .left) _ (found .lane-at .ensures .0) (credited .before .if2 .left) _ (credited .credit-of .ensures)
+    _ (written .write-record .ensures .0) _ (chosen .enum-told .given .1) _ (written .write-record .ensures .1) _ (c .before .release .ensures) _ (c .with-lane .ensures)
 
 pub close-lane-spec : {M : Type 1} → statement M
 close-lane-spec =
@@ -53,7 +60,7 @@ close-lane-spec =
     (λ c. search needs)
     (λ c κs. search needs)
     (λ c. search needs)
-    released-requires
+    release-requires
     (λ c κs. search needs)
     (λ c. search needs)
     returns-3

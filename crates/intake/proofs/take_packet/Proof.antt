@@ -1,29 +1,40 @@
--- The test for 24 makes the step ready to be carried out, and what is kept of it, put back into the state, is the promise.
-use mathlib.Core.Path.{refl, sym, _∙_}
+-- The step is ready to be carried out, and what it leaves, stored in its place, is the promise (`Given`).
+use mathlib.Core.Path.{_≡_, refl, sym, _∙_}
+use mathlib.Core.Logic.{⊎-elim}
+use native.Mathlib.Omega.{arith}
 use denote.Ref.{now}
-use Rattle.intake.proofs.Given.{ready-step, as-promised, refused-24, answer-told}
+use Rattle.intake.specs.State.{laneAt}
+use Rattle.intake.specs.After.{withLane}
+use Rattle.intake.proofs.Given.{ready-step, as-promised, answer-told, no-such-lane, nothing-stored}
 use borrow.Author.Needs.{needs}
 use Rattle.intake.proofs.take_packet.Statement.{statement}
 use Rattle.intake.proofs.take_packet.Tie as tie
 
-returns : tie.Need-returns
-returns c =
-    let s = c .before .before .before .before .before .args in
-    let w = refused-24 (s .s) (s .lane) (now (s .octets)) (now (s .pool)) (now (s .out)) _ (c .before .is-unsound .ensures) (c .if1 .taken) in
-    (answer-told (s .s) (s .lane) (now (s .octets)) _ _ _ (w .0), (w .0, (w .1, w .2)))
+-- the lane that is read is the state's, or none
+own : (c : tie.Joined1) → c .if1 .l ≡ laneAt (c .before .before .before .before .before .before .args .s) (c .before .before .before .before .before .before .args .lane)
+own c =
+    let s = c .before .before .before .before .before .before .args in
+    let eight = c .before .count-of .ensures in
+    ⊎-elim (λ w. w .2) (λ w. w .1 ∙ no-such-lane (s .s) (eight .1) (s .lane) (omega (arith, eight .0, w .0 .left))) (c .if1 .came)
 
 carry-out-requires : tie.Need-carry-out-requires
 carry-out-requires c κs =
-    let s = c .before .before .before .before .before .before .before .before .before .before .before .before .before .args in
-    ready-step (s .s) (c .before .before .before .before .before .lane-at .ensures .1) (s .lane) (now (s .octets)) _ _ (sym (c .before .before .before .before .before .before .before .before .before .is-unsound .ensures) ∙ c .before .before .before .before .before .before .before .before .if1 .left) _ (c .before .before .before .before .before .lane-at .ensures .0) _ (c .before .before .before .before .plan-packet .ensures)
-    _ (c .before .before .before .settled .ensures) _ (c .before .before .user-part .ensures)
+    let joined = c .before .before .before .before .before in
+    let s = joined .before .before .before .before .before .before .args in
+    ready-step (s .s) (joined .before .count-of .ensures .1) (s .lane) (now (s .octets)) _ _ _ (own joined) _ (c .before .before .before .before .step-of .ensures) _ (c .before .before .before .user-part .ensures)
 
-returns-2 : tie.Need-returns-2
-returns-2 c =
-    let s = c .before .before .before .before .before .before .before .before .before .before .before .before .before .before .before .before .before .before .before .before .before .args in
-    let w = c .before .before .before .before .before .before .before .carry-out .ensures in
-    let v = as-promised (s .s) (c .before .before .before .before .before .before .before .before .before .before .before .before .before .lane-at .ensures .1) (s .lane) (now (s .octets)) _ _ (sym (c .before .before .before .before .before .before .before .before .before .before .before .before .before .before .before .before .before .is-unsound .ensures) ∙ c .before .before .before .before .before .before .before .before .before .before .before .before .before .before .before .before .if1 .left) _ (c .before .before .before .before .before .before .before .before .before .before .before .before .before .lane-at .ensures .0) _ (c .before .before .before .before .before .before .before .before .before .before .before .before .plan-packet .ensures)
-    _ (c .before .before .before .before .before .before .before .before .before .before .before .settled .ensures) _ (c .before .before .before .before .before .before .before .before .before .before .user-part .ensures) (now (s .pool)) (now (s .out)) refl refl _ _ _ (w .0, w .1 .0, w .1 .1) _ (c .before .answer-of .ensures) _ (c .with-lane .ensures) in
+returns : tie.Need-returns
+returns c =
+    let done = c .before .before .before .before .before .before in
+    let used = done .before .before .before .before in
+    let joined = used .before .before in
+    let start = joined .before .before .before .before .before .before in
+    let s = start .args in
+    let eight = joined .before .count-of .ensures in
+    let w = done .carry-out .ensures in
+    let t : c .before .if2 .after ≡ withLane (s .s) (s .lane) (done .carry-out .result) (done .carry-out .last .1 .0) =
+    ⊎-elim (λ w. w .1) (λ w. w .1 ∙ nothing-stored (s .s) (eight .1) (s .lane) (omega (arith, eight .0, w .0 .left)) _ _) (c .before .if2 .came) in
+    let v = as-promised (s .s) (eight .1) (s .lane) (now (s .octets)) _ _ _ (own joined) _ (used .before .step-of .ensures) _ (used .user-part .ensures) (now (s .pool)) (now (s .out)) refl refl _ _ _ _ (w .0, w .1 .0, w .1 .1 .0, w .1 .1 .1) _ (c .answer-of .ensures) _ t in
     (answer-told (s .s) (s .lane) (now (s .octets)) _ _ _ (v .0), (v .0, (v .1, v .2)))
 
 pub take-packet-spec : {M : Type 1} → statement M
@@ -31,14 +42,14 @@ take-packet-spec =
     tie.close
     (tie.spec
     (λ c κs. search needs)
-    returns
-    (λ c κs. search needs)
-    (λ c κs. search needs)
-    (λ c κs. search needs)
+    (λ c. search needs)
+    (λ c. search needs)
+    (λ c κs. own c)
     (λ c κs. search needs)
     carry-out-requires
-    (λ c κs. search needs)
+    (λ c. search needs)
+    (λ c. search needs)
     (λ c κs. search needs)
     (λ c. search needs)
     (λ c. search needs)
-    returns-2)
+    returns)

@@ -1,25 +1,31 @@
 -- The marks grow and the octets are stored after those of the group (`Carried`).
 use native.Mathlib.Omega.{arith}
 use denote.Ref.{now}
-use Rattle.intake.proofs.Carried.{held-kept, held-pool}
+use Rattle.lane.specs.Steps.{laneAfter}
+use Rattle.intake.specs.After.{marksAfter}
+use Rattle.intake.proofs.Carried.{held-pool}
 use borrow.Author.Needs.{needs}
 use Rattle.intake.proofs.taking.hold.Statement.{statement}
 use Rattle.intake.proofs.taking.hold.Tie as tie
 
 grow-requires : tie.Need-grow-requires
-grow-requires c κs = let p = c .before .before .pre in (p .0 .0, p .2, omega (arith, p .1))
+grow-requires c κs = let p = c .before .before .before .pre in (p .0 .0, p .2, omega (arith, p .1))
 
 count-in-requires : tie.Need-count-in-requires
-count-in-requires c κs = c .before .before .before .before .before .before .before .before .pre .0 .1
+count-in-requires c κs = c .before .before .before .before .before .before .before .before .before .before .pre .0 .1
 
 returns : tie.Need-returns
+unfolding laneAfter marksAfter
 returns c =
     let stored = c .before .before .before in
-    let grown = stored .before .before .before in
-    let start = grown .before .before .before in
+    let grown = stored .before .before .before .before in
+    let start = grown .before .before .before .before in
     let s = start .args in (
-      held-kept _ _ _ _ _ _ _ (c .count-in .ensures) _ (grown .grow .ensures),
-      held-pool _ _ _ _ _ _ (now (s .user)) (now (s .pool)) (start .pre) _ (grown .grow .ensures) _ (stored .before .start-of .ensures) _ (stored .store-octets .ensures),
+      c .count-in .ensures,
+      (
+        grown .grow .ensures,
+        held-pool (now (s .marks)) _ _ _ _ _ (now (s .user)) (now (s .pool)) (start .pre) _ (grown .grow .ensures) _ (stored .before .start-of .ensures) _ (stored .store-octets .ensures),
+      ),
     )
 
 pub hold-spec : {M : Type 1} → statement M

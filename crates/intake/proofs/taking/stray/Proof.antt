@@ -1,17 +1,19 @@
--- The lane is counted and its marks are freed (`Carried`).
-use Rattle.intake.proofs.Carried.{strayed}
+-- The lane is counted and its marks are freed, as the definitions have it.
+use Rattle.lane.specs.Steps.{laneAfter}
+use Rattle.intake.specs.After.{marksAfter}
 use borrow.Author.Needs.{needs}
 use Rattle.intake.proofs.taking.stray.Statement.{statement}
 use Rattle.intake.proofs.taking.stray.Tie as tie
 
-count-in-requires : tie.Need-count-in-requires
-count-in-requires c κs = c .pre .1
+release-requires : tie.Need-release-requires
+release-requires c κs = c .before .pre .0
 
-released-requires : tie.Need-released-requires
-released-requires c κs = c .before .pre .0
+count-in-requires : tie.Need-count-in-requires
+count-in-requires c κs = c .before .before .pre .1
 
 returns : tie.Need-returns
-returns c = strayed _ _ _ _ _ (c .before .count-in .ensures) _ (c .released .ensures)
+unfolding laneAfter marksAfter
+returns c = (c .count-in .ensures, c .before .release .ensures)
 
 pub stray-spec : {M : Type 1} → statement M
-stray-spec = tie.close (tie.spec count-in-requires released-requires returns)
+stray-spec = tie.close (tie.spec release-requires count-in-requires returns)
