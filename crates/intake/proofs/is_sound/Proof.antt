@@ -47,7 +47,7 @@ returns-2 c =
     let at = c .before .before in
     let start = at .before .before .before in
     let all = all-passed (start .args .s .lanes) (at .loop .i) _ _ (at .loop .inv .1) (omega (arith, at .before .count-of .ensures, c .before .loop-test .left)) (omega (arith, at .before .count-of .ensures, c .before .loop-test .left)) in
-    too-much (start .args .s) _ (sym (all .0)) refl _ (all .1) (c .if3 .taken)
+    too-much (start .args .s) _ (sym (all .0)) refl _ (all .1) (omega (arith, c .if3 .taken))
 
 returns-3 : tie.Need-returns-3 Inv-loop μ-loop
 returns-3 c =
