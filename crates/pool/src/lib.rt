@@ -26,11 +26,15 @@ pub const POOL_OCTETS: usize = 16384;
 
 pub const FREE: u16 = 512;
 
-// The blocks that n octets need.
+// The blocks that n octets need: rounded up, without a sum that could overflow.
 pub fn blocks_for(n: usize) -> usize
     ensures { λ r. ⌜ r ≡ blocksFor n ⌝ }
 {
-    n / BLOCK_OCTETS + (n % BLOCK_OCTETS + 255) / BLOCK_OCTETS
+    if n == 0 {
+        0
+    } else {
+        (n - 1) / BLOCK_OCTETS + 1
+    }
 }
 
 // The n lowest-numbered free blocks become the lane's blocks from, from + 1, ... Each search starts at the block that the last one found:
