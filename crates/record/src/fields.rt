@@ -1,6 +1,7 @@
 // The fields of a record in its octets, and the bound on one of them.
 ghost use mathlib.Core.Path.{_≡_};
 ghost use Prim.Native.Nat.{_+_, _≤_, _<_};
+ghost use lib.Dec.{leb};
 ghost use lib.ListN.{length};
 ghost use Rattle.octets.specs.Octets.{octet, be16, be32};
 ghost use Rattle.octets.specs.Output.{put as puts};
@@ -12,15 +13,18 @@ use octets::put_be32;
 
 pub(crate) const SIZE: usize = 20;
 
-// The most that can be missing between so many packets: 16,382 before each but the first.
-pub(crate) fn most_missing(packets: u32) -> u64
-    ensures { λ r. ⌜ r ≡ mostMissing packets ⌝ }
+// Whether so many can be missing between so many packets: 16,382 before each but the first. Fewer than the packets always can, so the product is
+// rarely made.
+pub(crate) fn is_missing_possible(missing: u32, packets: u32) -> bool
+    ensures { λ r. ⌜ r ≡ leb missing (mostMissing packets) ⌝ }
 {
     if packets == 0 {
-        0
-    } else {
-        16382 * (packets as u64 - 1)
+        return missing == 0;
     }
+    if missing < packets {
+        return true;
+    }
+    missing as u64 <= 16382 * (packets as u64 - 1)
 }
 
 // The octet at index k, which lies within: the length was tested once for all fields, where `octets::octet_at` would test it for each octet.

@@ -8,7 +8,7 @@ ghost use Rattle.record.specs.Record.{recordSize};
 ghost use Rattle.record.specs.Reading.{recordReading, possibleBefore, fileReading};
 ghost use Rattle.record.specs.Told.{toldRead, toldWritten, toldFile, isPossible, writtenOf, afterOf};
 use fields::SIZE;
-use fields::most_missing;
+use fields::is_missing_possible;
 use fields::put_fields;
 use fields::record_in;
 
@@ -49,7 +49,7 @@ pub fn is_possible(r: Record) -> bool
     (r.apid <= 2046)
         & (r.packets <= 262144)
         & (r.units as u64 + r.broken as u64 <= r.packets as u64)
-        & (r.missing as u64 <= most_missing(r.packets))
+        & is_missing_possible(r.missing, r.packets)
 }
 
 // The fields of the record that s is, or the refusal.
