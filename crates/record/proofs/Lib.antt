@@ -5,3 +5,4 @@ pub mod First
 pub mod InFile
 pub mod Answers
 pub mod RoundTrip
+pub mod Tested

@@ -42,14 +42,20 @@ pub enum RecordFile {
     Ragged,
 }
 
-// Whether a record is possible. The sums are made in 64 bits, where they can't wrap.
+// Whether a record is possible. The sum is made in 64 bits, where it can't wrap; each test is left out where an earlier one fails.
 pub fn is_possible(r: Record) -> bool
     ensures { λ b. ⌜ b ≡ isPossible r ⌝ }
 {
-    (r.apid <= 2046)
-        & (r.packets <= 262144)
-        & (r.units as u64 + r.broken as u64 <= r.packets as u64)
-        & is_missing_possible(r.missing, r.packets)
+    if 2046 < r.apid {
+        return false;
+    }
+    if 262144 < r.packets {
+        return false;
+    }
+    if (r.packets as u64) < r.units as u64 + r.broken as u64 {
+        return false;
+    }
+    is_missing_possible(r.missing, r.packets)
 }
 
 // The fields of the record that s is, or the refusal.
