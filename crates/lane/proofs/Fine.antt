@@ -1,13 +1,11 @@
 -- What a fine lane is, clause by clause, both ways; and what legal settings are.
 use Prim.Native.Nat.{ℕ, _+_, _*_, _-_, _≤_}
-use mathlib.Core.Path.{_≡_, refl, sym, _∙_}
+use mathlib.Core.Path.{_≡_, refl, sym}
 use mathlib.Core.Bool.{Bool, true, false, not, _&&_, _||_, true≢false}
 use native.Mathlib.Omega.{arith}
 use borrow.Author.Tests.{leb-true, le-leb, ltb-false, le-ltb, eqb-true, eq-eqb}
 use lib.Dec.{eqb, leb, ltb}
 use Rattle.octets.proofs.Order.{either, neither, both}
-use Rattle.octets.specs.Octets.{one}
-use Rattle.pool.specs.Blocks.{blocksFor}
 use Rattle.record.specs.Record.{mostMissing, possible}
 use Rattle.lane.specs.declared.Settings.{Settings}
 use Rattle.lane.specs.declared.Lane.{Lane}

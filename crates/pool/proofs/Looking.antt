@@ -1,6 +1,6 @@
 -- What carries the tables of a lane's blocks and the test of the marks: from the highest block down, each turn writes what a search from there on
 -- would find.
-use Prim.Native.Nat.{ℕ, _+_, _-_, _/_, _%_, _≤_, _<_}
+use Prim.Native.Nat.{ℕ, zero, suc, _+_, _-_, _/_, _%_, _≤_, _<_}
 use mathlib.Core.Path.{_≡_, refl, sym, _∙_}
 use mathlib.Core.Bool.{Bool, true, false, _&&_}
 use mathlib.Core.List.{List, [], _∷_}
@@ -99,6 +99,12 @@ pub count-at-most : (p : ℕ → Bool) (marks : List ℕ) → count p marks ≤ 
 unfolding count
 count-at-most p [] = omega arith
 count-at-most p (o ∷ os) = omega (arith, one-at-most (p o), count-at-most p os)
+
+pub each-at-most : (held : List ℕ) (lane : ℕ) → getD held lane 0 ≤ sum held
+unfolding sum
+each-at-most [] lane = omega arith
+each-at-most (n ∷ ns) zero = omega arith
+each-at-most (n ∷ ns) (suc lane) = omega (arith, each-at-most ns lane)
 
 pub sum-turn : (held : List ℕ) (lane : ℕ) → lane < length held → sum (drop lane held) ≡ getD held lane 0 + sum (drop (lane + 1) held)
 unfolding sum

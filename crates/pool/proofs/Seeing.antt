@@ -2,7 +2,7 @@
 -- n of them are seen.
 use Prim.Native.Nat.{ℕ, zero, suc, _+_, _-_, _≤_, _<_, min}
 use mathlib.Core.Path.{_≡_, sym, _∙_}
-use mathlib.Core.Bool.{cond, true, false}
+use mathlib.Core.Bool.{cond, true}
 use mathlib.Core.List.{List}
 use native.Mathlib.Nat.{zero-add}
 use native.Mathlib.Omega.{arith}
@@ -97,10 +97,6 @@ module _ (marks seen : List ℕ) (is : Seen 64 seen marks) where
   pub lane-decides : (lane n : ℕ) → lane < 8 → n ≤ 64 → leb n (seenFrom seen (mark lane 0) n) ≡ holds marks lane n
   unfolding holds
   lane-decides lane n small few = rw (le-leb n 64 few) (all-found (mark lane 0) n (omega arith))
-
-pub over-64 : (marks : List ℕ) (lane n : ℕ) → 64 < n → holds marks lane n ≡ false
-unfolding holds
-over-64 marks lane n h = rw (lt-leb n 64 h)
 
 pub none-asked : (marks : List ℕ) (lane n : ℕ) → n ≡ 0 → holds marks lane n ≡ true
 unfolding holds found

@@ -124,22 +124,19 @@ fn places_seen(seen: &[u8; 513], lane: usize, n: u8, places: &[u8; 64]) -> u8
 
 // Whether the lane has a block for each of n places: so many are seen. A lane that holds none needs no count.
 fn lane_holds(seen: &[u8; 513], lane: usize, n: usize) -> bool
-    requires { ⌜ (lane < 8) × Flags (now seen) ⌝ }
+    requires { ⌜ (lane < 8) × (n ≤ 64) × Flags (now seen) ⌝ }
     ensures { λ r. ⌜ ((marks : List ℕ) → Seen 64 (now (seen .entry)) marks → r ≡ holds marks lane n) ⌝ }
 {
     if n == 0 {
         return true;
     }
-    if BLOCKS < n {
-        return false;
-    }
     let places = each_place();
     n <= places_seen(seen, lane, n as u8, &places) as usize
 }
 
-// Whether each lane has a block for each place that it holds.
+// Whether each lane has a block for each place that it holds; there are no more such places than blocks.
 pub(crate) fn each_holds(seen: &[u8; 513], held: &[u16]) -> bool
-    requires { ⌜ (length (now held) ≡ 8) × Flags (now seen) ⌝ }
+    requires { ⌜ (length (now held) ≡ 8) × (sum (now held) ≤ 64) × Flags (now seen) ⌝ }
     ensures { λ r. ⌜ ((marks : List ℕ) → Seen 64 (now (seen .entry)) marks → r ≡ eachHolds marks 0 (now (held .entry))) ⌝ }
 {
     let mut lane: usize = 0;

@@ -1,5 +1,5 @@
 -- The step is ready to be carried out, and what it leaves, stored in its place, is the promise (`Given`).
-use mathlib.Core.Path.{_≡_, refl, sym, _∙_}
+use mathlib.Core.Path.{_≡_, refl, _∙_}
 use mathlib.Core.Logic.{⊎-elim}
 use native.Mathlib.Omega.{arith}
 use denote.Ref.{now}

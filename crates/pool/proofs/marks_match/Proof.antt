@@ -27,7 +27,10 @@ returns-2 c =
     ∙ lanes-decide (start .args .t1) (start .args .t2) (sym (told counted) ∙ c .before .if1 .left)
 
 each-holds-requires : tie.Need-each-holds-requires
-each-holds-requires c κs = let table = c .before .before .marks-seen in (search needs, seen-flags _ (table .result) _ (table .ensures))
+each-holds-requires c κs =
+    let table = c .before .before .marks-seen in
+    let added = c .before .before .before .before .before in
+    (search needs, omega (arith, sym (told (added .before)) ∙ added .if1 .left), seen-flags _ (table .result) _ (table .ensures))
 
 returns-3 : tie.Need-returns-3
 returns-3 c =

@@ -1,7 +1,6 @@
 -- The lane is counted and its marks are freed, as the definitions have it.
 use Rattle.lane.specs.Steps.{laneAfter}
 use Rattle.intake.specs.After.{marksAfter}
-use borrow.Author.Needs.{needs}
 use Rattle.intake.proofs.taking.stray.Statement.{statement}
 use Rattle.intake.proofs.taking.stray.Tie as tie
 

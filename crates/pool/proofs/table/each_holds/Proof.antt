@@ -2,11 +2,12 @@
 use Prim.Native.Nat.{ℕ, _-_, _≤_}
 use mathlib.Core.Path.{_≡_, refl, sym, ap, _∙_}
 use mathlib.Core.List.{List}
+use native.Mathlib.Omega.{arith}
 use denote.Ref.{now}
 use lib.ListN.{getD, drop}
 use Rattle.pool.specs.Lookup.{Seen}
 use Rattle.pool.specs.Matching.{holds, eachHolds}
-use Rattle.pool.proofs.Looking.{lane-good, lane-bad, lanes-end}
+use Rattle.pool.proofs.Looking.{each-at-most, lane-good, lane-bad, lanes-end}
 use borrow.Author.Needs.{needs}
 use Rattle.pool.proofs.table.each_holds.Statement.{statement}
 use Rattle.pool.proofs.table.each_holds.Tie as tie
@@ -19,6 +20,13 @@ abbrev μ-loop : tie.MeasureT-loop
 
 loop-holds : tie.Need-loop-holds Inv-loop μ-loop
 loop-holds c = (search needs, λ marks is. refl)
+
+-- a lane holds no more than all of them
+lane-holds-requires : tie.Need-lane-holds-requires Inv-loop μ-loop
+lane-holds-requires c κs =
+    let at = c .before .before .before in
+    let start = at .before .before in
+    (search needs, omega (arith, each-at-most (now (start .args .held)) (at .loop .lane), c .wide .ensures, start .pre .1), search needs)
 
 -- what was found of the lane that the loop is at
 told : (c : tie.After-lane-holds Inv-loop μ-loop) (marks : List ℕ) → Seen 64 (now (c .before .before .before .before .before .before .args .seen)) marks
@@ -45,4 +53,4 @@ returns-2 c =
 
 pub each-holds-spec : {M : Type 1} → statement M
 each-holds-spec =
-    tie.close (tie.spec Inv-loop μ-loop loop-holds (λ c. search needs) (λ c. search needs) (λ c κs. search needs) (λ c κs. search needs) (λ c. search needs) (λ c. search needs) loop-again returns returns-2)
+    tie.close (tie.spec Inv-loop μ-loop loop-holds (λ c. search needs) (λ c. search needs) (λ c κs. search needs) lane-holds-requires (λ c. search needs) (λ c. search needs) loop-again returns returns-2)
