@@ -1,7 +1,7 @@
 /*
  * bench: measures every case of cases.c. `bench/run` calls it and prints the tables.
  *
- *     bench time [ROUNDS]   a line a case: name, what one number is for, nanoseconds of library, baseline and memcpy, ratio, its target, target in ns
+ *     bench time [ROUNDS]   a line a case: name, what one number is for, nanoseconds of library, baseline and memcpy, ratio, its target
  *     bench count           a line a case: name, and how often what one number is for stands in a batch; callgrind counts the batches
  *     bench memory          octets of the state, and of the stack that a packet's call uses on either side
  *
@@ -92,7 +92,7 @@ static void time_case(const struct measured_case *c, size_t rounds)
         took[3][r] = took[0][r] / took[1][r];
     }
     printf("%s\t%s\t%.2f\t%.2f\t%.2f\t", c->name, c->each, median(took[0], rounds), median(took[1], rounds), median(took[2], rounds));
-    printf("%.3f\t%.1f\t%.0f\n", median(took[3], rounds), c->most_ratio, c->most_nanoseconds);
+    printf("%.3f\t%.2f\n", median(took[3], rounds), c->most_ratio);
     fflush(stdout);
 }
 

@@ -7,8 +7,7 @@
 struct measured_case {
     const char *name;
     const char *each;              /* what one number is for: a packet, a record or a call */
-    double most_ratio;             /* the target of the time as a ratio to the baseline's, or 0 for none */
-    double most_nanoseconds;       /* the target of the library's own time, or 0 for none */
+    double most_ratio;             /* the target of the time as a ratio to the baseline's */
     void (*prepare)(size_t size);
     size_t size;
     uint64_t (*run)(const struct side *side); /* a batch; tells a sum over what was answered, which must be the same on both sides */
