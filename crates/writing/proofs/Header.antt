@@ -1,9 +1,9 @@
 -- The header that the writer takes can carry the fields: which it is goes by the tests that failed before it.
 use Prim.Native.Nat.{ℕ, _+_, _≤_, _<_}
-use mathlib.Core.Path.{_≡_, refl, sym, _∙_}
+use mathlib.Core.Path.{_≡_, refl}
 use mathlib.Core.Bool.{not, _&&_}
 use native.Mathlib.Omega.{arith}
-use borrow.Author.Tests.{lt-ltb, le-ltb, ltb-true, ltb-false, eqb-true, eqb-false, not-true}
+use borrow.Author.Tests.{ltb-true, eqb-true, eqb-false, not-true}
 use lib.Dec.{eqb, ltb}
 use lib.ListN.{length}
 use Rattle.octets.proofs.Order.{either, both}
@@ -51,9 +51,3 @@ header-size (one e a b c) x size = rw e refl
 header-size (two e a b c) x size = rw e refl
 header-size (four e a) x size = rw e refl
 header-size (eight e) x size = rw e refl
-
--- a test of the content is the test of the packet
-pub shifted : (k n l : ℕ) → ltb n l ≡ ltb (k + n) (k + l)
-shifted k n l =
-    either (ltb (k + n) (k + l)) (λ t. lt-ltb n l (omega (arith, ltb-true (k + n) (k + l) t)) ∙ sym t)
-    (λ f. le-ltb n l (omega (arith, ltb-false (k + n) (k + l) f)) ∙ sym f)

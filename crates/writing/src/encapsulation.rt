@@ -14,14 +14,18 @@ use packet::LIMIT;
 pub(crate) fn shortest_header(protocol: u32, user: u32, n: usize) -> usize
     ensures { λ r. ⌜ r ≡ shortest protocol user n ⌝ }
 {
-    if (n == 0) & (user == 0) & (protocol == 0) {
-        return 1;
-    }
     // The length of the whole packet stands in one octet, or in two: 2 + n is below 256, or 4 + n below 65,536.
-    if (user == 0) & (protocol != 6) & (n < 254) {
+    if 254 <= n {
+        return if n < 65532 { 4 } else { 8 };
+    }
+    if (user != 0) | (protocol == 6) {
+        return 4;
+    }
+    // One after the other: joined, both tests would be made for every packet, and few are empty.
+    if n != 0 {
         return 2;
     }
-    if n < 65532 { 4 } else { 8 }
+    if protocol == 0 { 1 } else { 2 }
 }
 
 // The refusal for a header and n octets of content, and an output of room octets; or 0.
