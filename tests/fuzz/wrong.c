@@ -2,17 +2,10 @@
  * The library with one fault, to show that the harness finds it: linked with -Wl,--wrap, each function goes through here, and the environment variable
  * WRONG names the fault. Without it nothing is changed.
  */
-#include <branmuslin.h>
+#include "../wrapped.h"
+
 #include <stdlib.h>
 #include <string.h>
-
-/* The linker's names. */
-#define REAL(function) __real_branmuslin_##function
-#define WRAP(function) __wrap_branmuslin_##function
-#define WRAPPED(type, function, ...) \
-    type REAL(function)(__VA_ARGS__); \
-    type WRAP(function)(__VA_ARGS__); \
-    type WRAP(function)(__VA_ARGS__)
 
 typedef struct branmuslin_state state;
 typedef struct branmuslin_change change;

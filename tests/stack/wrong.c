@@ -2,17 +2,10 @@
  * The library as it would be if its array had not vanished, to show that deepest.c finds that: linked with -Wl,--wrap, each function that copies goes
  * through here, and copies what it is lent by way of an array on the stack. The array is not cleared first, so that only what is copied touches it.
  */
-#include <branmuslin.h>
+#include "../wrapped.h"
+
 #include <stdlib.h>
 #include <string.h>
-
-/* The linker's names. */
-#define REAL(function) __real_branmuslin_##function
-#define WRAP(function) __wrap_branmuslin_##function
-#define WRAPPED(type, function, ...) \
-    type REAL(function)(__VA_ARGS__); \
-    type WRAP(function)(__VA_ARGS__); \
-    type WRAP(function)(__VA_ARGS__)
 
 /* The compiler must make the array, since its address goes to a function that it doesn't see. */
 static void copy(uint8_t *apart, const uint8_t *octets, size_t length)

@@ -1,7 +1,7 @@
 -- The clauses of a fine lane in the order in which the code tests them: one that fails decides, and the last is what is left.
 use Prim.Native.Nat.{ℕ, _+_, _≤_, _<_}
 use mathlib.Core.Path.{_≡_, refl, sym, ap, _∙_}
-use mathlib.Core.Bool.{Bool, true, false, not, _&&_, _||_}
+use mathlib.Core.Bool.{Bool, true, false, not, _&&_, _||_, and-true, and-false}
 use native.Mathlib.Omega.{arith}
 use lib.Dec.{eqb, leb}
 use borrow.Author.Tests.{le-leb, lt-leb, ne-eqb}
@@ -11,14 +11,6 @@ use Rattle.record.specs.Record.{possible}
 use Rattle.lane.specs.declared.Lane.{Lane}
 use Rattle.lane.specs.Lane.{held, illegal, talliesPossible, fine}
 use Rattle.lane.proofs.Tallied.{more-broken}
-
-and-false : (b : Bool) → false ≡ b && false
-and-false true = refl
-and-false false = refl
-
-and-true : (b : Bool) → b ≡ b && true
-and-true true = refl
-and-true false = refl
 
 -- the clause on last goes first, and the one on closed lanes holds
 last-first : (within group last t : Bool) → last && (within && group) && t ≡ within && group && true && last && t
@@ -36,11 +28,11 @@ module _ (l : Lane) where
   -- ---- the tallies
   pub too-few-packets : (g : ℕ) → g ≡ one (l .grouped) → l .packets < l .units + l .broken + g → false ≡ talliesPossible l
   unfolding talliesPossible
-  too-few-packets g e h = rw (more-broken (l .settings .apid) (l .units) (l .packets) (l .missing) (l .broken) (one (l .grouped)), ← e, lt-leb _ _ h) (and-false tally)
+  too-few-packets g e h = rw (more-broken (l .settings .apid) (l .units) (l .packets) (l .missing) (l .broken) (one (l .grouped)), ← e, lt-leb _ _ h) (sym (and-false tally))
 
   pub enough-packets : (g : ℕ) → g ≡ one (l .grouped) → l .units + l .broken + g ≤ l .packets → (b : Bool) → b ≡ tally → b ≡ talliesPossible l
   unfolding talliesPossible
-  enough-packets g e h b eb = rw (more-broken (l .settings .apid) (l .units) (l .packets) (l .missing) (l .broken) (one (l .grouped)), ← e, le-leb _ _ h) (eb ∙ and-true tally)
+  enough-packets g e h b eb = rw (more-broken (l .settings .apid) (l .units) (l .packets) (l .missing) (l .broken) (one (l .grouped)), ← e, le-leb _ _ h) (eb ∙ sym (and-true tally))
 
   -- ---- the group
   abbrev within : Bool
@@ -59,10 +51,10 @@ module _ (l : Lane) where
       anyhow false = refl
 
   pub of-a-group : l .grouped ≡ true → (n : ℕ) → n ≡ held l → leb n (l .settings .cap) ≡ within && group
-  of-a-group e n en = rw (e, en) (and-true within)
+  of-a-group e n en = rw (e, en) (sym (and-true within))
 
   pub of-no-group : l .grouped ≡ false → (l .octets ≡ 0 → ⊥) → false ≡ within && group
-  of-no-group e h = rw (e, ne-eqb (l .octets) 0 h) (and-false within)
+  of-no-group e h = rw (e, ne-eqb (l .octets) 0 h) (sym (and-false within))
 
   -- ---- what is asked of open and of closed lanes
   abbrev kept : Bool

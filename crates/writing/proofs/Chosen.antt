@@ -1,10 +1,10 @@
 -- The shortest header in the order in which the code asks: first whether the content is too long for a header of 2 octets, then whether a field
 -- needs one of 4. What each leaves of the definition's tests computes.
 use Prim.Native.Nat.{ℕ, _+_, _≤_, _<_}
-use mathlib.Core.Path.{_≡_}
+use mathlib.Core.Path.{_≡_, _∙_}
 use mathlib.Core.Bool.{true, false, cond, not, _&&_, _||_, and-true, and-false}
 use native.Mathlib.Omega.{arith}
-use borrow.Author.Tests.{lt-ltb, le-ltb, ne-eqb, eqb-true, not-false}
+use borrow.Author.Tests.{lt-ltb, le-ltb, eq-eqb, ne-eqb, eqb-true, not-false}
 use lib.Dec.{eqb, ltb}
 use Rattle.octets.proofs.Order.{either, neither}
 use Rattle.writing.specs.Encapsulation.{shortest}
@@ -27,3 +27,7 @@ module _ (p u n : ℕ) where
   of-short short f =
       let (user, other) = neither (not (eqb u 0)) (eqb p 6) f in
       simp (not-false (eqb u 0) user, other, lt-ltb (2 + n) 256 (omega arith), and-true)
+
+  -- and of no content
+  pub of-none : n ≡ 0 → not (eqb u 0) || eqb p 6 ≡ false → shortest p u n ≡ cond (eqb p 0) 1 2
+  of-none none f = of-short (omega arith) f ∙ simp (eq-eqb n 0 none)

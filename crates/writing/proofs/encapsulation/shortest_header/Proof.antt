@@ -2,7 +2,7 @@
 use Prim.Native.Nat.{_+_}
 use native.Mathlib.Omega.{arith}
 use borrow.Author.Tests.{lt-ltb, le-ltb, eq-eqb, ne-eqb}
-use Rattle.writing.proofs.Chosen.{of-long, of-fields, of-short}
+use Rattle.writing.proofs.Chosen.{of-long, of-fields, of-short, of-none}
 use Rattle.writing.proofs.encapsulation.shortest_header.Statement.{statement}
 use Rattle.writing.proofs.encapsulation.shortest_header.Tie as tie
 
@@ -28,23 +28,13 @@ returns-4 c =
 
 returns-5 : tie.Need-returns-5
 returns-5 c =
-    let there = c .before .before .before in
-    let a = there .before .args in
-    simp (
-      of-short (a .protocol) (a .user) (a .n) (there .if1 .left) (c .before .before .if3 .left),
-      eq-eqb (a .n) 0 (c .before .if4 .left),
-      eq-eqb (a .protocol) 0 (c .if5 .taken),
-    )
+    let a = c .before .before .before .before .args in
+    simp (of-none (a .protocol) (a .user) (a .n) (c .before .if4 .left) (c .before .before .if3 .left), eq-eqb (a .protocol) 0 (c .if5 .taken))
 
 returns-6 : tie.Need-returns-6
 returns-6 c =
-    let there = c .before .before .before in
-    let a = there .before .args in
-    simp (
-      of-short (a .protocol) (a .user) (a .n) (there .if1 .left) (c .before .before .if3 .left),
-      eq-eqb (a .n) 0 (c .before .if4 .left),
-      ne-eqb (a .protocol) 0 (c .if5 .left),
-    )
+    let a = c .before .before .before .before .args in
+    simp (of-none (a .protocol) (a .user) (a .n) (c .before .if4 .left) (c .before .before .if3 .left), ne-eqb (a .protocol) 0 (c .if5 .left))
 
 pub shortest-header-spec : {M : Type 1} → statement M
 shortest-header-spec = tie.close (tie.spec returns returns-2 returns-3 returns-4 returns-5 returns-6)
