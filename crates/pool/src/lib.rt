@@ -30,10 +30,10 @@ pub const FREE: u16 = 512;
 pub fn blocks_for(n: usize) -> usize
     ensures { λ r. ⌜ r ≡ blocksFor n ⌝ }
 {
-    if n == 0 {
-        0
+    if n % BLOCK_OCTETS == 0 {
+        n / BLOCK_OCTETS
     } else {
-        (n - 1) / BLOCK_OCTETS + 1
+        n / BLOCK_OCTETS + 1
     }
 }
 

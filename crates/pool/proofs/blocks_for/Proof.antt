@@ -1,4 +1,4 @@
--- No octets need no block; else the last octet is in block (n - 1)/256, the first block being 0.
+-- n/256, and 1 more where anything is left over.
 use native.Mathlib.Omega.{arith}
 use Rattle.pool.specs.Blocks.{blocksFor}
 use borrow.Author.Needs.{needs}
@@ -14,4 +14,4 @@ unfolding blocksFor
 returns-2 c = omega arith
 
 pub blocks-for-spec : {M : Type 1} → statement M
-blocks-for-spec = tie.close (tie.spec (λ c. search needs) (λ c. search needs) returns returns-2)
+blocks-for-spec = tie.close (tie.spec (λ c. search needs) returns returns-2)
