@@ -1,3 +1,4 @@
+pub mod Adding
 pub mod Front
 pub mod Short
 pub mod Steps

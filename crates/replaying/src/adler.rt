@@ -1,29 +1,64 @@
 // The Adler-32 of some octets.
 ghost use mathlib.Core.Path.{_≡_};
-ghost use Prim.Native.Nat.{_+_, _*_, _<_};
-ghost use Rattle.replaying.specs.Adler.{base, plus, adler};
+ghost use mathlib.Core.List.{List, _++_};
+ghost use Prim.Native.Nat.{ℕ, _+_, _≤_, _<_};
+ghost use lib.ListN.{length};
+ghost use Rattle.replaying.specs.Adler.{base, adlerFrom, adler};
 
 const BASE: u32 = 65521;
 
-// The sum modulo BASE. Both are below it, so that no division is needed.
-fn add(m: u32, n: u32) -> u32
-    requires { ⌜ (m < base) × (n < base) ⌝ }
-    ensures { λ r. ⌜ r ≡ plus m n ⌝ }
+// So many octets are added before the sums are reduced, which takes divisions; neither sum can pass 32 bits by then.
+const PART: usize = 2048;
+
+// The sum of the octets, and that of what it is after each.
+struct Sums {
+    first: u32,
+    second: u32,
+}
+
+// The sums once the octets of s are added.
+fn add_part(s: &[u8], from: Sums) -> Sums
+    requires { ⌜ (from .first < base) × (from .second < base) × (length (now s) ≤ 2048) ⌝ }
+    ensures { λ r. ⌜ (r .first < base) × (r .second < base) × ((rest : List ℕ) → adlerFrom (from .first) (from .second) (now (s .entry) ++ rest) ≡ adlerFrom (r .first) (r .second) rest) ⌝ }
 {
-    let sum = m + n;
-    if sum < BASE { sum } else { sum - BASE }
+    let mut first = from.first;
+    let mut second = from.second;
+    let mut i = 0;
+    while i < s.len() {
+        first += s[i] as u32;
+        second += first;
+        i += 1;
+    }
+    Sums {
+        first: first % BASE,
+        second: second % BASE,
+    }
+}
+
+// Where the part that begins at index at ends.
+fn part_end(at: usize, octets: usize) -> usize
+    requires { ⌜ at < octets ⌝ }
+    ensures { λ r. ⌜ (at < r) × (r ≤ octets) × (r ≤ at + 2048) ⌝ }
+{
+    if octets - at < PART {
+        octets
+    } else {
+        at + PART
+    }
 }
 
 pub(crate) fn adler32(s: &[u8]) -> u32
     ensures { λ r. ⌜ r ≡ adler (now (s .entry)) ⌝ }
 {
-    let mut a: u32 = 1;
-    let mut b: u32 = 0;
-    let mut i = 0;
-    while i < s.len() {
-        a = add(a, s[i] as u32);
-        b = add(b, a);
-        i += 1;
+    let mut sums = Sums {
+        first: 1,
+        second: 0,
+    };
+    let mut at = 0;
+    while at < s.len() {
+        let end = part_end(at, s.len());
+        sums = add_part(&s[at..end], sums);
+        at = end;
     }
-    b * 65536 + a
+    sums.second * 65536 + sums.first
 }

@@ -1,46 +1,63 @@
--- The invariant: the sum from here is the sum from the start.
-use Prim.Native.Nat.{_-_, _<_}
-use mathlib.Core.Path.{_≡_, refl, sym, _∙_}
-use native.Mathlib.Numerals.{add-one}
+-- The invariant: the sums of the parts so far lead from here to where those at the start lead.
+use Prim.Native.Nat.{_-_, _≤_, _<_}
+use mathlib.Core.Path.{_≡_, refl, sym, ap, _∙_}
 use native.Mathlib.Omega.{arith}
 use denote.Ref.{now}
 use lib.ListN.{length, drop, drop-of-length-le}
-use lib.Seq.{drop-cons}
 use Rattle.replaying.specs.Adler.{base, adlerFrom, adler}
+use Rattle.replaying.proofs.Adding.{part-length, part-first}
 use borrow.Author.Needs.{needs}
 use Rattle.replaying.proofs.adler.adler32.Statement.{statement}
 use Rattle.replaying.proofs.adler.adler32.Tie as tie
 
 abbrev Inv-loop : tie.InvT-loop
-Inv-loop s a₀ b₀ i₀ a b i = (a < base) × (b < base) × (adler s ≡ adlerFrom a b (drop i s))
+Inv-loop s sums₀ at₀ sums at = (at ≤ length s) × (sums .first < base) × (sums .second < base) × (adler s ≡ adlerFrom (sums .first) (sums .second) (drop at s))
 
 abbrev μ-loop : tie.MeasureT-loop
-μ-loop s a₀ b₀ i₀ a b i = length s - i
+μ-loop s sums₀ at₀ sums at = length s - at
 
 loop-holds : tie.Need-loop-holds Inv-loop μ-loop
 unfolding adler
-loop-holds c = (omega arith, omega arith, refl)
+loop-holds c = (omega arith, omega arith, omega arith, refl)
 
-add-requires : tie.Need-add-requires Inv-loop μ-loop
-add-requires c κs = (c .before .before .loop .inv .0, omega (arith, c .shared-slice-known2 .given (c .before .before .loop .i)))
+add-part-requires : tie.Need-add-part-requires Inv-loop μ-loop
+add-part-requires c κs =
+    let l = c .before .before .before .loop in
+    let e = c .before .part-end .ensures in
+    let few = part-length (now (c .before .before .before .before .before .args .s)) (l .at) (c .before .part-end .result) (omega (arith, e .0)) in
+    (l .inv .1, l .inv .2, omega (arith, e .2, few))
 
-add-requires-2 : tie.Need-add-requires-2 Inv-loop μ-loop
-add-requires-2 c κs = (c .before .before .before .loop .inv .1, omega (arith, c .add .ensures))
+loop-less : tie.Need-loop-less Inv-loop μ-loop
+loop-less c = omega (arith, c .before .before .part-end .ensures, c .before .before .before .loop-test .taken)
 
 loop-again : tie.Need-loop-again Inv-loop μ-loop
-unfolding adlerFrom
 loop-again c =
     let l = c .before .before .before .before .loop in
     let s = now (c .before .before .before .before .before .before .args .s) in
-    let first = c .before .add .ensures in
-    let second = c .add2 .ensures in
-    (omega (arith, first), omega (arith, second), l .inv .2 ∙ rw (drop-cons s (l .i) 0 (c .before .before .before .loop-test .taken), ← (add-one (l .i)), second, first))
+    let e = c .before .before .part-end .ensures in
+    let added = c .add-part .ensures in
+    (e .1, added .0, added .1, l .inv .3 ∙ ap (adlerFrom (l .sums .first) (l .sums .second)) (part-first s (l .at) (c .before .before .part-end .result) (omega (arith, e .0))) ∙ added .2 _)
 
 returns : tie.Need-returns Inv-loop μ-loop
 unfolding adlerFrom
 returns c =
-    let l = c .before .loop in
-    sym (l .inv .2 ∙ rw (drop-of-length-le (now (c .before .before .before .args .s)) (c .loop-test .left)))
+    let l = c .before .before .before .loop in
+    sym (l .inv .3 ∙ rw (drop-of-length-le (now (c .before .before .before .before .before .args .s)) (c .before .before .loop-test .left)))
 
 pub adler32-spec : {M : Type 1} → statement M
-adler32-spec = tie.close (tie.spec Inv-loop μ-loop loop-holds (λ c. search needs) (λ c. omega (arith, c .shared-slice-known2 .given (c .before .before .loop .i))) add-requires add-requires-2 (λ c. search needs) (λ c. search needs) loop-again (λ c. omega (arith, c .before .loop .inv)) (λ c. omega (arith, c .before .loop .inv)) returns)
+adler32-spec =
+    tie.close
+    (tie.spec
+    Inv-loop
+    μ-loop
+    loop-holds
+    (λ c κs. search needs)
+    (λ c. omega (arith, c .part-end .ensures))
+    (λ c. omega (arith, c .part-end .ensures))
+    (λ c. omega (arith, c .part-end .ensures))
+    add-part-requires
+    loop-less
+    loop-again
+    (λ c. omega (arith, c .before .before .loop .inv))
+    (λ c. omega (arith, c .before .before .before .loop .inv))
+    returns)
