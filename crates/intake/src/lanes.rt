@@ -20,7 +20,7 @@ pub(crate) fn count_of(lanes: [Lane; 8]) -> usize
     8
 }
 
-// A lane by its number, and a closed one for a number over 7. The array that is passed whole tells its length, which a field does not.
+// A lane by its number, and a closed one for a number over 7; and again that there are eight.
 pub(crate) fn lane_at(lanes: [Lane; 8], i: usize) -> Lane
     ensures { λ r. ⌜ r ≡ getD lanes i closed ⌝ }
     ensures { λ _. ⌜ length lanes ≡ 8 ⌝ }

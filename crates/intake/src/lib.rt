@@ -160,7 +160,7 @@ pub fn open_lane(s: State, lane: usize, settings: Settings, pool: &[u8]) -> Chan
     }
 }
 
-// What a packet comes to in lane l, which has the number.
+// The step that a packet comes to, where l is the lane of that number: 24, or what its plan is settled to.
 fn step_of(s: State, l: Lane, lane: usize, octets: &[u8], size: usize, room: usize) -> Step
     requires { ⌜ l ≡ laneAt s lane ⌝ }
     ensures { λ r. ⌜ r ≡ packetStep s lane (now (octets .entry)) size room ⌝ }

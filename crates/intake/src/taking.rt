@@ -1,5 +1,5 @@
 // A packet's step: whether there is room for it, and what it does to its lane, the marks, the pool and the output. The state is not handed through: a step
-// needs one lane of it and the marks, and what it leaves of them is put back once.
+// is handed one lane of it and lent the marks.
 ghost use mathlib.Core.Path.{_≡_};
 ghost use mathlib.Core.Bool.{true, false, cond};
 ghost use Prim.Native.Nat.{_+_, _≤_, _<_};
