@@ -25,6 +25,9 @@ use Rattle.octets.proofs.put_octets.Met as putOctets
 use Rattle.octets.proofs.put_octet.Met as putOctet
 use Rattle.octets.proofs.put_be16.Met as putBe16
 use Rattle.octets.proofs.put_be32.Met as putBe32
+use Rattle.numbers.proofs.one_if.Met as oneIf
+use Rattle.numbers.proofs.smaller.Met as smallerOf
+use Rattle.numbers.proofs.larger.Met as largerOf
 use Rattle.packet.proofs.number_of.Met as numberOf
 use Rattle.packet.proofs.header_of.Met as headerOf
 use Rattle.packet.proofs.size_of.Met as sizeOf
@@ -90,6 +93,9 @@ keeps public.put-octets M = putOctets.met
 keeps public.put-octet M = putOctet.met
 keeps public.put-be16 M = putBe16.met
 keeps public.put-be32 M = putBe32.met
+keeps public.one-if M = oneIf.met
+keeps public.smaller M = smallerOf.met
+keeps public.larger M = largerOf.met
 keeps public.number-of M = numberOf.met
 keeps public.header-of M = headerOf.met
 keeps public.size-of M = sizeOf.met

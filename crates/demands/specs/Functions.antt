@@ -27,6 +27,9 @@ use Rattle.octets.proofs.put_octets as putOctets
 use Rattle.octets.proofs.put_octet as putOctet
 use Rattle.octets.proofs.put_be16 as putBe16
 use Rattle.octets.proofs.put_be32 as putBe32
+use Rattle.numbers.proofs.one_if as oneIf
+use Rattle.numbers.proofs.smaller as smallerOf
+use Rattle.numbers.proofs.larger as largerOf
 use Rattle.packet.proofs.number_of as numberOf
 use Rattle.packet.proofs.header_of as headerOf
 use Rattle.packet.proofs.size_of as sizeOf
@@ -69,6 +72,9 @@ pub data Public : Type 0 where
   put-octet : Public
   put-be16 : Public
   put-be32 : Public
+  one-if : Public
+  smaller : Public
+  larger : Public
   number-of : Public
   header-of : Public
   size-of : Public
@@ -130,6 +136,9 @@ function put-octets = valued putOctets.ended (λ M. putOctets.clauses) putOctets
 function put-octet = valued putOctet.ended (λ M. putOctet.clauses) putOctet.Symbol.routine
 function put-be16 = valued putBe16.ended (λ M. putBe16.clauses) putBe16.Symbol.routine
 function put-be32 = valued putBe32.ended (λ M. putBe32.clauses) putBe32.Symbol.routine
+function one-if = valued oneIf.ended (λ M. oneIf.clauses) oneIf.Symbol.routine
+function smaller = valued smallerOf.ended (λ M. smallerOf.clauses) smallerOf.Symbol.routine
+function larger = valued largerOf.ended (λ M. largerOf.clauses) largerOf.Symbol.routine
 function number-of = valued numberOf.ended (λ M. numberOf.clauses) numberOf.Symbol.routine
 function header-of = valued headerOf.ended (λ M. headerOf.clauses) headerOf.Symbol.routine
 function size-of = valued sizeOf.ended (λ M. sizeOf.clauses) sizeOf.Symbol.routine
