@@ -29,7 +29,7 @@ use Rattle.intake.specs.declared.Answer.the-variants.{Held}
 use Rattle.intake.specs.State.{laneAt, others}
 use Rattle.intake.specs.Calls.{settle}
 use Rattle.intake.specs.After.{marksAfter, poolAfter, userOf, taking, takingPool}
-use Rattle.demands.specs.Runs.{Intake, freshWith, Call, opens, takes, closes, toPacket, reply, after, run, next}
+use Rattle.demands.specs.Runs.{Intake, begun, Call, opens, takes, closes, toPacket, reply, after, run, next}
 use Rattle.demands.specs.Order.{wouldHold}
 use Rattle.demands.specs.Demand3.{markAt, Belongs, marksFor, placeFor, OctetsStay, UsedAgain}
 use Rattle.demands.proofs.Sound.{Sound, lane-fine, opened-small}
@@ -64,13 +64,13 @@ lane-after x k size i p out = ap (λ (v : Slot). v .lane) (took-slot x k size i 
 
 pub octets-stay : OctetsStay
 unfolding after taking takingPool
-octets-stay pool calls (opens i settings) at size other = refl
-octets-stay pool calls (closes i out) at size other = refl
-octets-stay pool calls (takes i p out) at size other =
-    let x : Intake = run (freshWith pool) calls in
-    let k = reached-sound pool calls in
+octets-stay start calls (opens i settings) at other = refl
+octets-stay start calls (closes i out) at other = refl
+octets-stay start calls (takes i p out) at other =
+    let x : Intake = run (begun start) calls in
+    let k = reached-sound start calls in
     step-stays (x .state) i p (x .pool) at (length (x .pool)) (length out) (stepped (x .state) k i p (length (x .pool)) (length out))
-    (λ j low. other j (rw (lane-after x k (run-size (freshWith pool) calls ∙ size) i p out) low))
+    (λ j low. other j (rw (lane-after x k (run-size (begun start) calls ∙ start .whole) i p out) low))
 
 -- ---- a packet that needs a block, and has the room
 module _ (l : Lane) (p : List ℕ) (room o w : ℕ) (most : w ≤ l .settings .cap) (beside : max w (l .settings .share) + o ≤ 64) where
@@ -114,11 +114,11 @@ run-append x (c ∷ calls) more = run-append (after x c) calls more
 
 pub used-again : UsedAgain
 unfolding run laneAfter
-used-again pool calls c b j p out size its is-free (open′, sound, few, fits) new (most, beside) due =
-    let y : Intake = after (run (freshWith pool) calls) c in
+used-again start calls c b j p out its is-free (open′, sound, few, fits) new (most, beside) due =
+    let y : Intake = after (run (begun start) calls) c in
     let s : State = y .state in
-    let k : Sound s = after-sound (run (freshWith pool) calls) (reached-sound pool calls) c in
-    let sized : length (y .pool) ≡ 16384 = after-size (run (freshWith pool) calls) c ∙ run-size (freshWith pool) calls ∙ size in
+    let k : Sound s = after-sound (run (begun start) calls) (reached-sound start calls) c in
+    let sized : length (y .pool) ≡ 16384 = after-size (run (begun start) calls) c ∙ run-size (begun start) calls ∙ start .whole in
     let w : ℕ = wouldHold (laneAt s j) p in
     let h = holds-then (laneAt s j) p (length out) (others (s .lanes) j) w most beside open′ sound new few refl (omega (arith, due)) in
     let step : stepFor y j p out ≡ Hold (h .0) (h .1 .0) (h .1 .1 .0) = settled y k sized j p out ∙ h .1 .1 .1 .0 in
@@ -128,4 +128,4 @@ used-again pool calls c b j p out size its is-free (open′, sound, few, fits) n
     let seen : isFree (getD (marksFor s j p) b 0) ≡ true = eq-eqb (getD (marksFor s j p) b 0) free (looked-free s k j p b (its .0) is-free) in
     let bears : markAt (after y (takes j p out) .state) b ≡ mark j (placeFor s j p b) = lowest ∙ rw holds′ (simp (seen, lt-ltb (placeFor s j p b) w due)) in
     let few-places : placeFor s j p b < 64 = omega (arith, due, most, is-fine (laneAt s j) (lane-fine s k j) .legal open′ .cap) in
-    subst (λ (z : Intake). Belongs (z .state) b j) (sym (run-append (freshWith pool) calls (c ∷ takes j p out ∷ []))) (its .0, opened-small s k j open′, omega (arith, bears, few-places))
+    subst (λ (z : Intake). Belongs (z .state) b j) (sym (run-append (begun start) calls (c ∷ takes j p out ∷ []))) (its .0, opened-small s k j open′, omega (arith, bears, few-places))

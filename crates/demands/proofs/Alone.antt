@@ -30,7 +30,7 @@ use Rattle.intake.specs.declared.State.{State}
 use Rattle.intake.specs.State.{freshState, laneAt, total, others}
 use Rattle.intake.specs.Calls.{openingRefusal, closingRefusal, settle}
 use Rattle.intake.specs.After.{openedWith, opening, closing, creditOf, closingOut, answerOf, taking}
-use Rattle.demands.specs.Runs.{Intake, freshWith, Call, opens, takes, closes, Reply, toOpening, toPacket, reply, after, run, replies, laneOf, names, own, repliesTo}
+use Rattle.demands.specs.Runs.{Intake, Start, begun, Call, opens, takes, closes, Reply, toOpening, toPacket, reply, after, run, replies, laneOf, names, own, repliesTo}
 use Rattle.demands.specs.Runs as runs
 use Rattle.demands.specs.Demand3.{StaysInShare, NoneUnpromised, AsAlone}
 use Rattle.demands.proofs.Lanes.{need-closed, total-at}
@@ -210,20 +210,20 @@ all-closed zero i = refl
 all-closed (suc n) zero = refl
 all-closed (suc n) (suc i) = all-closed n i
 
-pub fresh-slot : (pool : List ℕ) (i : ℕ) → slotIn (freshWith pool) i ≡ without closed
+pub begun-slot : (start : Start) (i : ℕ) → slotIn (begun start) i ≡ without closed
 unfolding freshState gathered
-fresh-slot pool i = rw (all-closed 8 i)
+begun-slot start i = rw (all-closed 8 i)
 
 pub as-alone : AsAlone
 unfolding freshState
-as-alone i calls pool alone size size-alone w never =
-    along i calls (freshWith pool) (freshWith alone)
+as-alone i calls shared alone w never =
+    along i calls (begun shared) (begun alone)
     (record {
       shared = fresh;
       alone = fresh;
-      size = size;
-      size-alone = size-alone;
-      slot = fresh-slot pool i ∙ sym (fresh-slot alone i);
+      size = shared .whole;
+      size-alone = alone .whole;
+      slot = begun-slot shared i ∙ sym (begun-slot alone i);
       no-other = no-need 8 i;
     })
     w never

@@ -19,7 +19,7 @@ use Rattle.intake.specs.State.{laneAt, total, unsound}
 use Rattle.intake.specs.Calls.{openingRefusal, closingRefusal, packetStep}
 use Rattle.intake.specs.After.{openedWith, releasedFrom, opening, closing, taking}
 use Rattle.intake.proofs.Soundness.{closed-fine}
-use Rattle.demands.specs.Runs.{Shaped, Intake, freshWith, Call, opens, takes, closes, after, run}
+use Rattle.demands.specs.Runs.{Shaped, Intake, Start, begun, Call, opens, takes, closes, after, run}
 use Rattle.demands.proofs.Lanes.{need-closed, total-at}
 use Rattle.demands.proofs.Sound.{Sound, fresh, lane-fine, opened-small, room-now, need-open, unless}
 use Rattle.demands.proofs.Marks.{released-length, marks-length, emptied}
@@ -114,5 +114,5 @@ unfolding run
 run-sound x k [] = k
 run-sound x k (c ∷ cs) = run-sound (after x c) (after-sound x k c) cs
 
-pub reached-sound : (pool : List ℕ) (cs : List Call) → Sound (run (freshWith pool) cs .state)
-reached-sound pool cs = run-sound (freshWith pool) fresh cs
+pub reached-sound : (start : Start) (cs : List Call) → Sound (run (begun start) cs .state)
+reached-sound start cs = run-sound (begun start) fresh cs

@@ -20,7 +20,7 @@ use Rattle.writing.proofs.Shortest.{is-shortest}
 use Rattle.writing.proofs.RoundTrips.{space-output, encap-output, space-written, encap-written}
 use Rattle.lane.proofs.Fine.{Tallies, is-fine}
 use Rattle.intake.specs.State.{laneAt}
-use Rattle.demands.specs.Runs.{Intake, freshWith, closes, toClosing, run, laneOf}
+use Rattle.demands.specs.Runs.{Intake, begun, closes, toClosing, run, laneOf}
 use Rattle.demands.specs.Rule.{units, credit}
 use Rattle.demands.specs.Past.{Past, shut, since, packetsOf, isRefused, pastOf, unitsTold}
 use Rattle.demands.specs.Demand2.{SpaceGivenBack, EncapsulationGivenBack, HeaderIsShortest, RecordGivenBack, Possible, fileOf, FileGivenBack, SpaceWrittenAgain, EncapsulationWrittenAgain, RecordWrittenAgain}
@@ -89,13 +89,13 @@ record-written-again r s small e =
 
 -- ---- the rule
 pub replies-are-the-rules : RepliesAreTheRules
-replies-are-the-rules pool calls c size =
-    let h = reached-at (laneOf c) pool size calls in
-    call-follows (run (freshWith pool) calls) (h .sound) (h .size) (pastOf (laneOf c) (freshWith pool) calls) c (h .slot) .1
+replies-are-the-rules start calls c =
+    let h = reached-at (laneOf c) start calls in
+    call-follows (run (begun start) calls) (h .sound) (h .size) (pastOf (laneOf c) (begun start) calls) c (h .slot) .1
 
 pub lanes-are-the-rules : LanesAreTheRules
-lanes-are-the-rules pool calls i size =
-    let e = reached-at i pool size calls .slot in
+lanes-are-the-rules start calls i =
+    let e = reached-at i start calls .slot in
     (ap (λ (v : Slot). v .lane) e, ap (λ (v : Slot). v .group) e)
 
 -- ---- the credit
@@ -112,13 +112,13 @@ credited-units (since s ps) i out credited t e =
     (rw (← z) (units-written (credit s ps) out (omega arith)), omega arith)
 
 credit-needs-units : (n : ℕ) → CreditNeeds n
-credit-needs-units n pool calls i out credited size e told =
-    let x : Intake = run (freshWith pool) calls in
-    let past : Past = pastOf i (freshWith pool) calls in
-    let h : At i x past (unitsTold i (freshWith pool) calls) = reached-at i pool size calls in
+credit-needs-units n start calls i out credited e told =
+    let x : Intake = run (begun start) calls in
+    let past : Past = pastOf i (begun start) calls in
+    let h : At i x past (unitsTold i (begun start) calls) = reached-at i start calls in
     let t : Tallies (laneFrom past) = subst (λ (v : Slot). Tallies (v .lane)) (h .slot) (is-fine (laneAt (x .state) i) (lane-fine (x .state) (h .sound) i) .tallies) in
     let r : ruled past (closes i out) ≡ some (toClosing 0 credited) =
-    ⊎-elim (λ z. absurd (true≢false (sym z ∙ ap isRefused e))) (λ z. z ∙ ap some e) (replies-are-the-rules pool calls (closes i out) size) in
+    ⊎-elim (λ z. absurd (true≢false (sym z ∙ ap isRefused e))) (λ z. z ∙ ap some e) (replies-are-the-rules start calls (closes i out)) in
     let u = credited-units past i out credited t r in
     (sym (u .0) ∙ told, omega (arith, u .0, u .1, told), h .told ∙ sym (u .0) ∙ told)
 

@@ -6,7 +6,7 @@ use mathlib.Core.Path.{_≡_, refl, sym, ap, ap₂, _∙_}
 use mathlib.Core.Bool.{Bool, true, false, not, _&&_, true≢false}
 use mathlib.Core.List.{List, [], _∷_}
 use native.Mathlib.Omega.{arith}
-use lib.ListN.{length, replicate, length-replicate}
+use lib.ListN.{length}
 use lib.Dec.{eqb}
 use Rattle.octets.specs.Octets.{one}
 use Rattle.octets.specs.Output.{put, outputAfter}
@@ -26,7 +26,7 @@ use Rattle.intake.specs.declared.State.{State}
 use Rattle.intake.specs.State.{freshState, laneAt, total, others, every, sound, unsound}
 use Rattle.intake.specs.Calls.{openingRefusal, closingRefusal, settle, packetStep}
 use Rattle.intake.specs.After.{opening, closing, closingOut, releasedFrom, grown, marksAfter, poolAfter, groupOf, outAfter, userOf, taking, takingPool, takingOut}
-use Rattle.demands.specs.Runs.{IsPool, Intake, freshWith, Call, opens, takes, closes, Reply, toOpening, toPacket, toClosing, reply, after, run, replies, own, repliesTo}
+use Rattle.demands.specs.Runs.{Intake, begun, Call, opens, takes, closes, Reply, toOpening, toPacket, toClosing, reply, after, run, replies, own, repliesTo}
 use Rattle.demands.specs.Demand3.{StaysInShare, NoneUnpromised}
 use Rattle.demands.specs.Examples.{zeros, ones, interleaved, toldLane0, toldLane1, crowded, toldCrowded, toldUncrowded, unpromised, all64, toldAll64, freeBlocks, freeAround, freeAll64, shares20, toldShares20, Told, Examples}
 use Rattle.demands.proofs.View.{after-size}
@@ -82,7 +82,7 @@ freeOn : State → List Call → List ℕ
 freeOn s [] = freeBlocks s ∷ []
 freeOn s (c ∷ calls) = freeBlocks s ∷ freeOn (stateAfter s c) calls
 
-module _ (x : Intake) (size : IsPool (x .pool)) where
+module _ (x : Intake) (size : length (x .pool) ≡ poolOctets) where
   same-state : (c : Call) → after x c .state ≡ stateAfter (x .state) c
   unfolding after stateAfter
   same-state (opens i settings) = rw size
@@ -95,14 +95,14 @@ module _ (x : Intake) (size : IsPool (x .pool)) where
   same-reply (takes i packet out) = rw size
   same-reply (closes i out) = rw size
 
-same-replies : (x : Intake) → IsPool (x .pool) → (calls : List Call) → replies x calls ≡ repliesOn (x .state) x calls
+same-replies : (x : Intake) → length (x .pool) ≡ poolOctets → (calls : List Call) → replies x calls ≡ repliesOn (x .state) x calls
 unfolding replies repliesOn
 same-replies x size [] = refl
 same-replies x size (c ∷ calls) =
     ap₂ (λ (r : Reply) (rs : List Reply). r ∷ rs) (same-reply x size c)
     (same-replies (after x c) (after-size x c ∙ size) calls ∙ ap (λ (s : State). repliesOn s (after x c) calls) (same-state x size c))
 
-same-free : (x : Intake) → IsPool (x .pool) → (calls : List Call) → freeAround x calls ≡ freeOn (x .state) calls
+same-free : (x : Intake) → length (x .pool) ≡ poolOctets → (calls : List Call) → freeAround x calls ≡ freeOn (x .state) calls
 unfolding freeAround freeOn
 same-free x size [] = refl
 same-free x size (c ∷ calls) =
@@ -138,7 +138,7 @@ unpromised-told = record { in-company = refl; alone = refl }
 
 -- a lane's own calls, alone, stay in its share
 abbrev InShare : ℕ → List Call → Type 0
-InShare i calls = seen i (freshWith ones) (own i calls)
+InShare i calls = seen i (begun ones) (own i calls)
 
 in-share : InShare 0 interleaved × InShare 1 interleaved × InShare 0 unpromised
 unfolding running seen
@@ -153,35 +153,29 @@ unfolding calling stateAfter replyOn repliesOn
 shares20-on x = refl
 
 -- ---- all of it
--- a pool that is filled with one octet
-pub filled : (octet : ℕ) → IsPool (replicate poolOctets octet)
-filled octet = length-replicate poolOctets octet
-
 -- a lane that is told one thing in company and another alone isn't replied as alone
 told-apart : {i : ℕ} {calls : List Call} {shared single : List Reply} → Told i calls shared single
-    → repliesTo i (freshWith zeros) calls ≡ replies (freshWith ones) (own i calls) → shared ≡ single
+    → repliesTo i (begun zeros) calls ≡ replies (begun ones) (own i calls) → shared ≡ single
 told-apart t e = sym (t .in-company) ∙ e ∙ t .alone
 
 pub examples : Examples
 unfolding is23 none23
 examples = record {
-  empty-zeros = filled 0;
-  empty-ones = filled 255;
   lane0 = lane0-told;
-  lane0-in-share = stays 0 (freshWith ones) (own 0 interleaved) (in-share .0);
+  lane0-in-share = stays 0 (begun ones) (own 0 interleaved) (in-share .0);
   lane0-promised = rw (lane0-told .in-company) (none-unpromised toldLane0 refl);
   lane1 = lane1-told;
-  lane1-in-share = stays 1 (freshWith ones) (own 1 interleaved) (in-share .1);
+  lane1-in-share = stays 1 (begun ones) (own 1 interleaved) (in-share .1);
   lane1-promised = rw (lane1-told .in-company) (none-unpromised toldLane1 refl);
   crowded-differs = crowded-told;
   share-is-needed = λ h.
-      let e = told-apart crowded-told (h 0 crowded zeros ones (filled 0) (filled 255) (rw (crowded-told .in-company) (none-unpromised toldCrowded refl))) in
+      let e = told-apart crowded-told (h 0 crowded zeros ones (rw (crowded-told .in-company) (none-unpromised toldCrowded refl))) in
       let z : _≡_ {A = ℕ} 0 1 = cc in omega arith;
   unpromised-differs = unpromised-told;
   promise-is-needed = λ h.
-      let e = told-apart unpromised-told (h 0 unpromised zeros ones (filled 0) (filled 255) (stays 0 (freshWith ones) (own 0 unpromised) (in-share .2))) in
+      let e = told-apart unpromised-told (h 0 unpromised zeros ones (stays 0 (begun ones) (own 0 unpromised) (in-share .2))) in
       let z : _≡_ {A = ℕ} 23 0 = cc in omega arith;
-  all64-told = λ pool empty. same-replies (freshWith pool) empty all64 ∙ all64-on (freshWith pool) .0;
-  all64-free = λ pool empty. same-free (freshWith pool) empty all64 ∙ all64-on (freshWith pool) .1;
-  shares20-told = λ pool empty. same-replies (freshWith pool) empty shares20 ∙ shares20-on (freshWith pool);
+  all64-told = λ start. same-replies (begun start) (start .whole) all64 ∙ all64-on (begun start) .0;
+  all64-free = λ start. same-free (begun start) (start .whole) all64 ∙ all64-on (begun start) .1;
+  shares20-told = λ start. same-replies (begun start) (start .whole) shares20 ∙ shares20-on (begun start);
 }

@@ -21,14 +21,14 @@ use Rattle.intake.specs.State.{laneAt, others}
 use Rattle.intake.specs.Calls.{openingRefusal, closingRefusal}
 use Rattle.intake.specs.After.{openedWith, creditOf, opening, closing, closingOut}
 use Rattle.intake.specs.declared.Answer.the-variants.{Refused, Repeat, Stray, Held, Unit}
-use Rattle.demands.specs.Runs.{Intake, freshWith, Call, opens, takes, closes, Reply, toOpening, toPacket, toClosing, reply, after, run, laneOf, names}
+use Rattle.demands.specs.Runs.{Intake, Start, begun, Call, opens, takes, closes, Reply, toOpening, toPacket, toClosing, reply, after, run, laneOf, names}
 use Rattle.demands.specs.Rule.{Accepted, present, repeats, missing, group, unit, givesUp, answerWith, answerTo, endings, units, missingInAll, broken, lastCount}
 use Rattle.demands.specs.Past.{Past, shut, since, packetsOf, acceptedOf, isRefused, isAccepted, later, pastFrom, pastOf, isUnit, unitsToldAfter, unitsToldFrom, unitsTold}
 use Rattle.demands.specs.Demand2.{laneFrom, written}
 use Rattle.demands.proofs.Sound.{Sound, fresh, lane-fine}
 use Rattle.demands.proofs.Calls.{opened-at, closed-at, after-sound}
 use Rattle.demands.proofs.View.{Slot, slotIn, without, after-size, took-reply, settled, took-slot, opened-slot, closed-slot, other-slot}
-use Rattle.demands.proofs.Alone.{fresh-slot}
+use Rattle.demands.proofs.Alone.{begun-slot}
 use Rattle.demands.proofs.Ruled.{slotFrom, Right, Follows, units-more, packet-follows}
 
 -- ---- an opening and a closing of lane v, by their refusals
@@ -111,9 +111,9 @@ pub record At (i : ℕ) (x : Intake) (past : Past) (n : ℕ) : Type 0 where
   pub told : n ≡ units (packetsOf past)
 
 module _ (i : ℕ) where
-  fresh-at : (pool : List ℕ) → length pool ≡ 16384 → At i (freshWith pool) shut 0
+  begun-at : (start : Start) → At i (begun start) shut 0
   unfolding endings group
-  fresh-at pool size = record { sound = fresh; size = size; slot = fresh-slot pool i; told = refl }
+  begun-at start = record { sound = fresh; size = start .whole; slot = begun-slot start i; told = refl }
 
   module _ (x : Intake) (past : Past) (n : ℕ) (h : At i x past n) (c : Call) where
     of-own : laneOf c ≡ i → At i (after x c) (later past c (reply x c)) (unitsToldAfter n c (reply x c))
@@ -142,6 +142,6 @@ module _ (i : ℕ) where
   run-at x past n h [] = h
   run-at x past n h (c ∷ calls) = run-at (after x c) _ _ (after-at x past n h c) calls
 
-  pub reached-at : (pool : List ℕ) → length pool ≡ 16384 → (calls : List Call)
-      → At i (run (freshWith pool) calls) (pastOf i (freshWith pool) calls) (unitsTold i (freshWith pool) calls)
-  reached-at pool size calls = run-at (freshWith pool) shut 0 (fresh-at pool size) calls
+  pub reached-at : (start : Start) (calls : List Call)
+      → At i (run (begun start) calls) (pastOf i (begun start) calls) (unitsTold i (begun start) calls)
+  reached-at start calls = run-at (begun start) shut 0 (begun-at start) calls

@@ -33,7 +33,7 @@ use Rattle.intake.specs.Calls.{openingRefusal, closingRefusal, packetStep}
 use Rattle.intake.specs.After.{releasedFrom, marksAfter, poolAfter, outAfter, groupOf, userOf, opening, closing, closingOut, taking, takingPool, takingOut}
 use Rattle.intake.proofs.Soundness.{then-sound}
 use Rattle.intake.proofs.Taken.{same-state}
-use Rattle.demands.specs.Runs.{Shaped, freshWith, Call, run}
+use Rattle.demands.specs.Runs.{Shaped, Start, begun, Call, run}
 use Rattle.demands.specs.Groups.{groupIn, Leaves, HeldPlace}
 use Rattle.demands.specs.Order.{refusalOf, wouldHold, packetTests}
 use Rattle.demands.proofs.Sound.{Sound, is-sound, sound-is, not-unsound, fresh, lane-fine}
@@ -55,16 +55,16 @@ good s h = (h .shape, sound-is s h)
 pub fresh-sound : Good freshState
 fresh-sound = good freshState fresh
 
-pub run-sound : (pool : List ℕ) (calls : List Call) → Good (run (freshWith pool) calls .state)
-run-sound pool calls = good (run (freshWith pool) calls .state) (reached-sound pool calls)
+pub run-sound : (start : Start) (calls : List Call) → Good (run (begun start) calls .state)
+run-sound start calls = good (run (begun start) calls .state) (reached-sound start calls)
 
 -- 24 is never met there, with a pool of 16,384 octets
-module _ (pool : List ℕ) (calls : List Call) (i : ℕ) where
+module _ (start : Start) (calls : List Call) (i : ℕ) where
   abbrev here : State
-  here = run (freshWith pool) calls .state
+  here = run (begun start) calls .state
 
   never : unsound here 16384 ≡ false
-  never = not-unsound here (reached-sound pool calls)
+  never = not-unsound here (reached-sound start calls)
 
   abbrev Not24 : ℕ → Type 0
   Not24 n = n ≡ 24 → ⊥
@@ -83,7 +83,7 @@ module _ (pool : List ℕ) (calls : List Call) (i : ℕ) where
 
   pub packet-never-24 : (p : List ℕ) (room : ℕ) → packetStep here i p 16384 room ≡ Refuse 24 → ⊥
   packet-never-24 p room e =
-      true≢false (sym (refused-why here i p 16384 room 24 (subst (Stepped here i p 16384 room) e (stepped here (reached-sound pool calls) i p 16384 room)) .0 refl) ∙ never)
+      true≢false (sym (refused-why here i p 16384 room 24 (subst (Stepped here i p 16384 room) e (stepped here (reached-sound start calls) i p 16384 room)) .0 refl) ∙ never)
 
 -- ---- A refusal returns its number and leaves state, pool and output untouched: of any state, sound or not
 module _ (s : State) (i : ℕ) where

@@ -34,7 +34,7 @@ use Rattle.intake.specs.declared.Answer.the-variants.{Held}
 use Rattle.intake.specs.State.{laneAt, others, unsound}
 use Rattle.intake.specs.Calls.{settle, packetStep}
 use Rattle.intake.specs.After.{marksAfter, userOf, answerOf, answered, taking}
-use Rattle.demands.specs.Runs.{Intake, freshWith, takes, toPacket, reply, after, run, reached, laneOf}
+use Rattle.demands.specs.Runs.{Intake, begun, takes, toPacket, reply, after, run, reached, laneOf}
 use Rattle.demands.specs.Groups.{HeldPlace}
 use Rattle.demands.specs.Demand3.{markAt, blockOf, marksFor, keeps, marked, WithinCap, NoBlockInTwo, NoneLost, OnlyItsOwn, Freed, TakesLowest}
 use Rattle.demands.proofs.Sound.{Sound, lane-fine}
@@ -48,9 +48,9 @@ use Rattle.demands.proofs.Moves.{grown-marked, call-moves, none-belongs
 
 -- ---- No source ever holds more than its cap
 pub within-cap : WithinCap
-within-cap pool calls i size small =
-    let s : State = run (freshWith pool) calls .state in
-    let k : Sound s = reached-sound pool calls in
+within-cap start calls i small =
+    let s : State = run (begun start) calls .state in
+    let k : Sound s = reached-sound start calls in
     (just-its-blocks s k i small .0, is-fine (laneAt s i) (lane-fine s k i) .within)
 
 -- ---- No block belongs to two sources
@@ -72,9 +72,9 @@ octet-bears s k i q h =
     (omega (arith, k .shape .1), rw block (bears (s .marks) m there), omega (arith, held-most (laneAt s i) (lane-fine s k i) .1))
 
 pub no-block-in-two : NoBlockInTwo
-no-block-in-two pool calls i j q r size hq hr =
-    let s : State = reached pool calls in
-    let k : Sound s = reached-sound pool calls in
+no-block-in-two start calls i j q r hq hr =
+    let s : State = reached start calls in
+    let k : Sound s = reached-sound start calls in
     let here = octet-bears s k i q hq in
     let there = octet-bears s k j r hr in (
       (here .0, has-octets s k i q hq, omega (arith, here .1, here .2)),
@@ -83,25 +83,25 @@ no-block-in-two pool calls i j q r size hq hr =
 
 -- ---- no sequence of calls loses a block
 pub none-lost : NoneLost
-none-lost pool calls size =
-    let s : State = reached pool calls in
-    let k : Sound s = reached-sound pool calls in (
+none-lost start calls =
+    let s : State = reached start calls in
+    let k : Sound s = reached-sound start calls in (
       λ b h. ⊎-elim inl (λ (p : HeldPlace s (markAt s b)). inr (p .lane, (h, p .small, omega (arith, p .bears, p .holds, held-most (laneAt s (p .lane)) (lane-fine s k (p .lane)) .0)))) (free-or-held s k b h),
       matched (s .marks) (map held (s .lanes)) (k .shape .1) (length-map (s .lanes) held ∙ k .shape .0) (k .marks) .whole,
     )
 
 -- ---- a call moves blocks only between the free ones and its lane's
 pub only-its-own : OnlyItsOwn
-only-its-own pool calls c b size block = call-moves (run (freshWith pool) calls) (reached-sound pool calls) c b block
+only-its-own start calls c b block = call-moves (run (begun start) calls) (reached-sound start calls) c b block
 
 -- a block stays its lane's only where the lane has a group
 pub freed : Freed
-freed pool calls c b size its shut =
-    let x : Intake = run (freshWith pool) calls in
-    let next : Sound (after x c .state) = after-sound x (reached-sound pool calls) c in
+freed start calls c b its shut =
+    let x : Intake = run (begun start) calls in
+    let next : Sound (after x c .state) = after-sound x (reached-sound start calls) c in
     ⊎-elim (λ same. none-belongs (after x c .state) next (laneOf c) b (its .0, its .1, rw same (its .2)) shut)
     (λ moved. ⊎-elim (λ e. e) (λ still. none-belongs (after x c .state) next (laneOf c) b still shut) (moved .1))
-    (only-its-own pool calls c b size (its .0))
+    (only-its-own start calls c b (its .0))
 
 -- what was answered is what the step tells
 step-told : (x : Intake) (i : ℕ) (p out left : List ℕ) (a : Answer) → reply x (takes i p out) ≡ toPacket a left
@@ -186,4 +186,4 @@ lowest-at x k i p out left m gave b block e =
     (step-flagged (x .state) i p (length (x .pool)) (length out)) (step-told x i p out left (Held m gave) e)
 
 pub takes-lowest : TakesLowest
-takes-lowest pool calls i p out left m gave b size block e = lowest-at (run (freshWith pool) calls) (reached-sound pool calls) i p out left m gave b block e
+takes-lowest start calls i p out left m gave b block e = lowest-at (run (begun start) calls) (reached-sound start calls) i p out left m gave b block e

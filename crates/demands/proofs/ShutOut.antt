@@ -15,15 +15,14 @@ use Rattle.intake.specs.declared.Answer.{Answer}
 use Rattle.intake.specs.declared.Answer.the-variants.{Refused, Repeat, Stray, Held, Unit}
 use Rattle.intake.specs.State.{laneAt}
 use Rattle.packet.specs.Reading.{fields, reading}
-use Rattle.demands.specs.Runs.{Intake, freshWith, Call, opens, takes, closes, Reply, toOpening, toPacket, toClosing, reply, after, run, laneOf, names}
+use Rattle.demands.specs.Runs.{Intake, Start, begun, Call, opens, takes, closes, Reply, toOpening, toPacket, toClosing, reply, after, run, laneOf, names}
 use Rattle.demands.specs.Rule.{repeats, missing, group, endings, missingInAll, broken, answerWith, answerTo}
 use Rattle.demands.specs.Past.{Past, shut, since, acceptedOf, isRefused, later, pastFrom}
 use Rattle.demands.specs.Demand2.{ruled}
-use Rattle.demands.specs.Runs.{IsPool}
 use Rattle.demands.specs.Examples.{zeros, settings, beginning, unsegmented, room}
 use Rattle.demands.specs.ShutOut.{AnyIntake, Promised, ranFrom, ran, pastBy, ownPast, answerIn, missingTold, missingBy, creditBy, MakesUpMissing, MakesUpCredit, ShutOut, RefusesEverything, AnswersConstantly, ReadsConstantly, StoresNothing, OnlyNods, IsShutOut, Written}
 use Rattle.demands.proofs.Demand2.{replies-are-the-rules}
-use Rattle.demands.proofs.Examples.{running, filled}
+use Rattle.demands.proofs.Examples.{running}
 
 -- ---- an intake that keeps the promises
 module _ (n : AnyIntake) (p : Promised n) where
@@ -39,12 +38,12 @@ module _ (n : AnyIntake) (p : Promised n) where
   past-as i past x (c ∷ calls) = rw (p .as-after x c, p .as-reply x c) (past-as i (cond (names i c) (later past c (reply x c)) past) (after x c) calls)
 
   -- and what comes of one more call
-  module _ (pool : List ℕ) (calls : List Call) (c : Call) where
-    replies-as : n .replies-to (ran n pool calls) c ≡ reply (run (freshWith pool) calls) c
-    replies-as = rw (runs-as (freshWith pool) calls) (p .as-reply _ c)
+  module _ (start : Start) (calls : List Call) (c : Call) where
+    replies-as : n .replies-to (ran n start calls) c ≡ reply (run (begun start) calls) c
+    replies-as = rw (runs-as (begun start) calls) (p .as-reply _ c)
 
-    leaves-as : n .leaves (ran n pool calls) c ≡ after (run (freshWith pool) calls) c
-    leaves-as = rw (runs-as (freshWith pool) calls) (p .as-after _ c)
+    leaves-as : n .leaves (ran n start calls) c ≡ after (run (begun start) calls) c
+    leaves-as = rw (runs-as (begun start) calls) (p .as-after _ c)
 
 -- ---- small runs: lane 0 is opened; a first packet comes, and an unsegmented one
 abbrev opening : List Call
@@ -59,13 +58,13 @@ whole = unsegmented 1 (2 ∷ [])
 -- the opened lane holds the first packet and makes a unit of the other; the first is stored, and the other changes the tallies
 refuses-everything : IsShutOut RefusesEverything
 unfolding running
-refuses-everything n h p = true≢false (sym (h zeros opening 0 first [] (filled 0)) ∙ ap isRefused (replies-as n p zeros opening (takes 0 first [])))
+refuses-everything n h p = true≢false (sym (h zeros opening 0 first []) ∙ ap isRefused (replies-as n p zeros opening (takes 0 first [])))
 
 answers-constantly : IsShutOut AnswersConstantly
 unfolding running
 answers-constantly n h p =
     let e : some (Held 0 false) ≡ some (Unit 1 0 false) =
-    sym (ap answerIn (replies-as n p zeros opening (takes 0 first (room 1)))) ∙ h zeros opening 0 first whole (room 1) (filled 0)
+    sym (ap answerIn (replies-as n p zeros opening (takes 0 first (room 1)))) ∙ h zeros opening 0 first whole (room 1)
     ∙ ap answerIn (replies-as n p zeros opening (takes 0 whole (room 1))) in
     let z : _≡_ {A = ℕ} 0 1 = cc in omega arith
 
@@ -80,7 +79,7 @@ stores-nothing : IsShutOut StoresNothing
 unfolding running
 stores-nothing n h p =
     let e : _≡_ {A = ℕ} 0 1 =
-    ap (λ (x : Intake). getD (x .pool) 0 0) (sym (runs-as n p (freshWith zeros) opening)) ∙ ap (λ (pool : List ℕ). getD pool 0 0) (sym (h zeros opening 0 first [] (filled 0)))
+    ap (λ (x : Intake). getD (x .pool) 0 0) (sym (runs-as n p (begun zeros) opening)) ∙ ap (λ (pool : List ℕ). getD pool 0 0) (sym (h zeros opening 0 first []))
     ∙ ap (λ (x : Intake). getD (x .pool) 0 0) (leaves-as n p zeros opening (takes 0 first [])) in
     omega arith
 
@@ -88,10 +87,10 @@ only-nods : IsShutOut OnlyNods
 unfolding running
 only-nods n h p =
     let calls : List Call = opens 0 (settings 1 2) ∷ takes 0 first [] ∷ [] in
-    let same = runs-as n p (freshWith zeros) calls in
+    let same = runs-as n p (begun zeros) calls in
     let e : _≡_ {A = ℕ} 2 1 =
     ap (λ (x : Intake). laneAt (x .state) 0 .packets) (sym (leaves-as n p zeros calls (takes 0 whole (room 1))))
-    ∙ ap (λ (four : List ℕ). getD four 1 0) (h zeros calls 0 whole (room 1) (filled 0) (rw same (omega arith)))
+    ∙ ap (λ (four : List ℕ). getD four 1 0) (h zeros calls 0 whole (room 1) (rw same (omega arith)))
     ∙ ap (λ (x : Intake). laneAt (x .state) 0 .packets) same in
     omega arith
 
@@ -128,19 +127,19 @@ credit-by-rule past i out credited (inl refused) = absurd (true≢false (sym ref
 credit-by-rule shut i out credited (inr e) = cc
 credit-by-rule (since settings packets) i out credited (inr e) = cc
 
-by-rule : (n : AnyIntake) → Promised n → (pool : List ℕ) (calls : List Call) (c : Call) → IsPool pool
-    → ByRule (ownPast n (laneOf c) pool calls) c (n .replies-to (ran n pool calls) c)
-by-rule n p pool calls c empty = rw (past-as n p (laneOf c) shut (freshWith pool) calls, replies-as n p pool calls c) (replies-are-the-rules pool calls c empty)
+by-rule : (n : AnyIntake) → Promised n → (start : Start) (calls : List Call) (c : Call)
+    → ByRule (ownPast n (laneOf c) start calls) c (n .replies-to (ran n start calls) c)
+by-rule n p start calls c = rw (past-as n p (laneOf c) shut (begun start) calls, replies-as n p start calls c) (replies-are-the-rules start calls c)
 
 makes-up-missing : IsShutOut MakesUpMissing
 makes-up-missing n h p =
-    h .otherwise (missing-by-rule (ownPast n (h .lane) (h .pool) (h .calls)) (h .lane) (h .packet) (h .out) _ (h .told)
-    (by-rule n p (h .pool) (h .calls) (takes (h .lane) (h .packet) (h .out)) (h .empty)) (h .tells))
+    h .otherwise (missing-by-rule (ownPast n (h .lane) (h .start) (h .calls)) (h .lane) (h .packet) (h .out) _ (h .told)
+    (by-rule n p (h .start) (h .calls) (takes (h .lane) (h .packet) (h .out))) (h .tells))
 
 makes-up-credit : IsShutOut MakesUpCredit
 makes-up-credit n h p =
-    h .otherwise (credit-by-rule (ownPast n (h .lane) (h .pool) (h .calls)) (h .lane) (h .out) (h .credited)
-    (rw (h .writes) at (by-rule n p (h .pool) (h .calls) (closes (h .lane) (h .out)) (h .empty))))
+    h .otherwise (credit-by-rule (ownPast n (h .lane) (h .start) (h .calls)) (h .lane) (h .out) (h .credited)
+    (rw (h .writes) at (by-rule n p (h .start) (h .calls) (closes (h .lane) (h .out)))))
 
 pub shut-out : ShutOut
 shut-out = record {
@@ -189,8 +188,7 @@ nods = record { replies-to = reply; leaves = nodding; reads = reading }
 missing-made-up : MakesUpMissing (says (Stray 1 false))
 unfolding running saying pastBy ranFrom missing
 missing-made-up = record {
-  pool = zeros;
-  empty = filled 0;
+  start = zeros;
   calls = opening;
   lane = 0;
   packet = first;
@@ -203,8 +201,7 @@ missing-made-up = record {
 credit-made-up : MakesUpCredit credits
 unfolding running pastBy ranFrom endings missingInAll broken group
 credit-made-up = record {
-  pool = zeros;
-  empty = filled 0;
+  start = zeros;
   calls = opening;
   lane = 0;
   out = room 20;
@@ -216,11 +213,11 @@ credit-made-up = record {
 pub written : Written
 unfolding saying nodding
 written = record {
-  refuses-everything = (says (Refused 19), λ pool calls i packet out empty. refl);
-  answers-constantly = (says (Held 0 false), λ pool calls i packet other out empty. refl);
+  refuses-everything = (says (Refused 19), λ start calls i packet out. refl);
+  answers-constantly = (says (Held 0 false), λ start calls i packet other out. refl);
   reads-constantly = (says (Held 0 false), λ s other. refl);
-  stores-nothing = (forgets, λ pool calls i packet out empty. refl);
-  only-nods = (nods, λ pool calls i packet out empty some. simp (ne-eqb (laneAt (ran nods pool calls .state) i .packets) 0 (λ z. omega arith)));
+  stores-nothing = (forgets, λ start calls i packet out. refl);
+  only-nods = (nods, λ start calls i packet out some. simp (ne-eqb (laneAt (ran nods start calls .state) i .packets) 0 (λ z. omega arith)));
   makes-up-missing = (says (Stray 1 false), missing-made-up);
   makes-up-credit = (credits, credit-made-up);
 }

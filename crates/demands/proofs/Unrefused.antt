@@ -28,7 +28,7 @@ use Rattle.intake.specs.State.{laneAt, total, others}
 use Rattle.intake.specs.Calls.{openingRefusal, closingRefusal, settle}
 use Rattle.intake.specs.After.{answerOf, opening, closing, taking, takingPool, takingOut}
 use Rattle.demands.specs.Runs as runs
-use Rattle.demands.specs.Runs.{Intake, freshWith, IsPool, Call, toOpening, toPacket, reply, run, reached, takes}
+use Rattle.demands.specs.Runs.{Intake, Start, begun, Call, toOpening, toPacket, reply, run, reached, takes}
 use Rattle.demands.specs.Order.{wouldHold, wouldWrite}
 use Rattle.demands.specs.Past.{isRefused}
 use Rattle.demands.specs.Demand3.{NothingAmiss, HasRoom, RoomInShare, GetsRoom, RepeatsChangeNothing, Opens, Closes}
@@ -91,15 +91,15 @@ module _ (l : Lane) (p : List ℕ) (room o : ℕ) where
   accepts few h = either (repeats l (count p)) (λ e. simp e tt) (λ e. simp (e, lt-leb 262144 (l .packets) few) h)
 
 -- ---- a packet
-module _ (pool : List ℕ) (calls : List Call) (i : ℕ) (packet out : List ℕ) (size : IsPool pool) where
+module _ (start : Start) (calls : List Call) (i : ℕ) (packet out : List ℕ) where
   abbrev x : Intake
-  x = run (freshWith pool) calls
+  x = run (begun start) calls
 
   abbrev l : Lane
   l = laneAt (x .state) i
 
   planned : stepFor x i packet out ≡ settle (others (x .state .lanes) i) (packetPlan l packet (length out))
-  planned = settled x (reached-sound pool calls) (run-size (freshWith pool) calls ∙ size) i packet out
+  planned = settled x (reached-sound start calls) (run-size (begun start) calls ∙ start .whole) i packet out
 
   gets : NothingAmiss l packet out → HasRoom (x .state) i packet → isRefused (reply x (takes i packet out)) ≡ false
   gets (open′, sound, few, fits) (most, beside) =
@@ -108,30 +108,30 @@ module _ (pool : List ℕ) (calls : List Call) (i : ℕ) (packet out : List ℕ)
       taken-reply x i packet out (rw planned h)
 
 pub gets-room : GetsRoom
-gets-room pool calls i packet out size fine′ room = gets pool calls i packet out size fine′ room
+gets-room start calls i packet out fine′ room = gets start calls i packet out fine′ room
 
 pub room-in-share : RoomInShare
-room-in-share pool calls i packet out size fine′ few =
-    let s = reached pool calls in
-    let k = reached-sound pool calls in
-    gets pool calls i packet out size fine′
+room-in-share start calls i packet out fine′ few =
+    let s = reached start calls in
+    let k = reached-sound start calls in
+    gets start calls i packet out fine′
     (omega (arith, few, is-fine (laneAt s i) (lane-fine s k i) .legal (fine′ .0) .share), omega (arith, few, share-fits s k i (fine′ .0)))
 
 pub repeats-change-nothing : RepeatsChangeNothing
 unfolding packetPlan acceptedPlan settle runs.after taking takingPool
-repeats-change-nothing pool calls i packet out size open′ sound same =
-    let x : Intake = run (freshWith pool) calls in
-    let again : stepFor x i packet out ≡ Repeat = planned pool calls i packet out size ∙ simp (open′, sound, same) in
+repeats-change-nothing start calls i packet out open′ sound same =
+    let x : Intake = run (begun start) calls in
+    let again : stepFor x i packet out ≡ Repeat = planned start calls i packet out ∙ simp (open′, sound, same) in
     let left = repeat-leaves (x .state) i packet (x .pool) out again in
     (took-reply x i packet out ∙ rw again, ap₂ (λ (s : State) (p : List ℕ). record { state = s; pool = p }) (left .0) (left .1))
 
 -- ---- an opening and a closing
 pub opens : Opens
 unfolding reply opening openingRefusal
-opens pool calls i settings size small shut legal fits =
-    let x : Intake = run (freshWith pool) calls in
-    ap toOpening (rw (run-size (freshWith pool) calls ∙ size)
-    (simp (not-unsound (x .state) (reached-sound pool calls), le-ltb 7 i (omega arith), shut, legal, le-ltb 64 (settings .share + total (x .state .lanes)) fits)))
+opens start calls i settings small shut legal fits =
+    let x : Intake = run (begun start) calls in
+    ap toOpening (rw (run-size (begun start) calls ∙ start .whole)
+    (simp (not-unsound (x .state) (reached-sound start calls), le-ltb 7 i (omega arith), shut, legal, le-ltb 64 (settings .share + total (x .state .lanes)) fits)))
 
 tallies-possible : (l : Lane) → fine l ≡ true → talliesPossible l ≡ true
 unfolding fine
@@ -141,8 +141,8 @@ tallies-possible l e =
 
 pub closes : Closes
 unfolding reply closing closingRefusal
-closes pool calls i out size open′ fits =
-    let x : Intake = run (freshWith pool) calls in
-    let k = reached-sound pool calls in
-    rw (run-size (freshWith pool) calls ∙ size)
+closes start calls i out open′ fits =
+    let x : Intake = run (begun start) calls in
+    let k = reached-sound start calls in
+    rw (run-size (begun start) calls ∙ start .whole)
     (simp (not-unsound (x .state) k, open′, le-ltb (length out) recordSize fits, tallies-possible (laneAt (x .state) i) (lane-fine (x .state) k i)))

@@ -28,7 +28,7 @@ use Rattle.lane.specs.declared.Lane.{Lane}
 use Rattle.lane.specs.Lane as lane
 use Rattle.intake.specs.declared.Answer.the-variants.{Repeat}
 use Rattle.intake.specs.State.{laneAt}
-use Rattle.demands.specs.Runs.{freshWith, IsPool, Call, opens, takes, closes, Reply, toOpening, toPacket, toClosing, run, reached, replied, laneOf}
+use Rattle.demands.specs.Runs.{Start, begun, Call, opens, takes, closes, Reply, toOpening, toPacket, toClosing, run, reached, replied, laneOf}
 use Rattle.demands.specs.Groups.{groupIn}
 use Rattle.demands.specs.Rule.{Accepted, present, octetsIn, repeats, group, unit, answerTo, endings, units, missingInAll, broken, lastCount, credit}
 use Rattle.demands.specs.Past.{Past, shut, since, packetsOf, acceptedOf, isRefused, pastOf, unitsTold}
@@ -134,25 +134,25 @@ ruled (since settings packets) (closes i out) = some (toClosing 0 (put out 0 (oc
 -- accepted
 abbrev pub RepliesAreTheRules : Type 0
 RepliesAreTheRules =
-    (pool : List ℕ) (calls : List Call) (c : Call) → IsPool pool
-    → (isRefused (replied pool calls c) ≡ true) ⊎ (ruled (pastOf (laneOf c) (freshWith pool) calls) c ≡ some (replied pool calls c))
+    (start : Start) (calls : List Call) (c : Call)
+    → (isRefused (replied start calls c) ≡ true) ⊎ (ruled (pastOf (laneOf c) (begun start) calls) c ≡ some (replied start calls c))
 
 -- the packets that lane i has accepted since its opening
-abbrev pub acceptedBy : ℕ → List ℕ → List Call → List Accepted
-acceptedBy i pool calls = packetsOf (pastOf i (freshWith pool) calls)
+abbrev pub acceptedBy : ℕ → Start → List Call → List Accepted
+acceptedBy i start calls = packetsOf (pastOf i (begun start) calls)
 
 -- the lane's tallies are the rule's, and the octets of its open group in the pool
 abbrev pub LanesAreTheRules : Type 0
 LanesAreTheRules =
-    (pool : List ℕ) (calls : List Call) (i : ℕ) → IsPool pool
-    → (laneAt (reached pool calls) i ≡ laneFrom (pastOf i (freshWith pool) calls))
-    × (groupIn (reached pool calls) (run (freshWith pool) calls .pool) i ≡ octetsIn (group (acceptedBy i pool calls)))
+    (start : Start) (calls : List Call) (i : ℕ)
+    → (laneAt (reached start calls) i ≡ laneFrom (pastOf i (begun start) calls))
+    × (groupIn (reached start calls) (run (begun start) calls .pool) i ≡ octetsIn (group (acceptedBy i start calls)))
 
 -- ---- So a credit of n units needs n accepted packets that each end a unit, and each was answered Unit
 abbrev pub CreditNeeds : ℕ → Type 0
 CreditNeeds n =
-    (pool : List ℕ) (calls : List Call) (i : ℕ) (out credited : List ℕ) → IsPool pool → replied pool calls (closes i out) ≡ toClosing 0 credited → unitsIn credited ≡ n
-    → (length (endings (acceptedBy i pool calls)) ≡ n) × (n ≤ length (acceptedBy i pool calls)) × (unitsTold i (freshWith pool) calls ≡ n)
+    (start : Start) (calls : List Call) (i : ℕ) (out credited : List ℕ) → replied start calls (closes i out) ≡ toClosing 0 credited → unitsIn credited ≡ n
+    → (length (endings (acceptedBy i start calls)) ≡ n) × (n ≤ length (acceptedBy i start calls)) × (unitsTold i (begun start) calls ≡ n)
 
 pub record Demand2 : Type 0 where
   pub space-given-back : SpaceGivenBack

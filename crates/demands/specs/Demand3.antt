@@ -23,7 +23,7 @@ use Rattle.lane.specs.Grouping.{repeats}
 use Rattle.intake.specs.declared.State.{State}
 use Rattle.intake.specs.declared.Answer.the-variants.{Repeat, Held}
 use Rattle.intake.specs.State.{laneAt, total, others}
-use Rattle.demands.specs.Runs.{Intake, freshWith, IsPool, Call, opens, takes, closes, Reply, toOpening, toPacket, after, run, replies, reached, replied, next, laneOf, own, repliesTo}
+use Rattle.demands.specs.Runs.{Intake, Start, begun, Call, opens, takes, closes, Reply, toOpening, toPacket, after, run, replies, reached, replied, next, laneOf, own, repliesTo}
 use Rattle.demands.specs.Order.{wouldHold, wouldWrite}
 use Rattle.demands.specs.Past.{isRefused}
 
@@ -41,10 +41,10 @@ NoneUnpromised rs = (n : ℕ) → getD rs n (toOpening 0) ≡ toOpening 23 → �
 -- differ
 abbrev pub AsAlone : Type 0
 AsAlone =
-    (i : ℕ) (calls : List Call) (pool alone : List ℕ) → IsPool pool → IsPool alone
-    → StaysInShare i (freshWith alone) (own i calls)
-    → NoneUnpromised (repliesTo i (freshWith pool) calls)
-    → repliesTo i (freshWith pool) calls ≡ replies (freshWith alone) (own i calls)
+    (i : ℕ) (calls : List Call) (shared alone : Start)
+    → StaysInShare i (begun alone) (own i calls)
+    → NoneUnpromised (repliesTo i (begun shared) calls)
+    → repliesTo i (begun shared) calls ≡ replies (begun alone) (own i calls)
 
 -- ---- what has nothing amiss isn't refused
 -- a packet with nothing amiss but perhaps the room: its lane is open and hasn't taken too many, it has no fault, and the unit that it ends, if it ends one,
@@ -55,9 +55,9 @@ NothingAmiss l packet out = (l .opened ≡ true) × (fault (l .settings) packet 
 -- a lane in its share isn't refused room
 abbrev pub RoomInShare : Type 0
 RoomInShare =
-    (pool : List ℕ) (calls : List Call) (i : ℕ) (packet out : List ℕ) → IsPool pool → NothingAmiss (laneAt (reached pool calls) i) packet out
-    → wouldHold (laneAt (reached pool calls) i) packet ≤ laneAt (reached pool calls) i .settings .share
-    → isRefused (replied pool calls (takes i packet out)) ≡ false
+    (start : Start) (calls : List Call) (i : ℕ) (packet out : List ℕ) → NothingAmiss (laneAt (reached start calls) i) packet out
+    → wouldHold (laneAt (reached start calls) i) packet ≤ laneAt (reached start calls) i .settings .share
+    → isRefused (replied start calls (takes i packet out)) ≡ false
 
 -- nor is one that its cap and the other lanes leave the room
 abbrev pub HasRoom : State → ℕ → List ℕ → Type 0
@@ -67,27 +67,27 @@ HasRoom s i packet =
 
 abbrev pub GetsRoom : Type 0
 GetsRoom =
-    (pool : List ℕ) (calls : List Call) (i : ℕ) (packet out : List ℕ) → IsPool pool → NothingAmiss (laneAt (reached pool calls) i) packet out
-    → HasRoom (reached pool calls) i packet → isRefused (replied pool calls (takes i packet out)) ≡ false
+    (start : Start) (calls : List Call) (i : ℕ) (packet out : List ℕ) → NothingAmiss (laneAt (reached start calls) i) packet out
+    → HasRoom (reached start calls) i packet → isRefused (replied start calls (takes i packet out)) ≡ false
 
 -- a packet with the count of the last one is answered Repeat, at a full unitsToldAfter too, and nothing changes
 abbrev pub RepeatsChangeNothing : Type 0
 RepeatsChangeNothing =
-    (pool : List ℕ) (calls : List Call) (i : ℕ) (packet out : List ℕ) → IsPool pool
-    → laneAt (reached pool calls) i .opened ≡ true → fault (laneAt (reached pool calls) i .settings) packet ≡ 0
-    → repeats (laneAt (reached pool calls) i) (space.count packet) ≡ true
-    → (replied pool calls (takes i packet out) ≡ toPacket Repeat out) × (after (run (freshWith pool) calls) (takes i packet out) ≡ run (freshWith pool) calls)
+    (start : Start) (calls : List Call) (i : ℕ) (packet out : List ℕ)
+    → laneAt (reached start calls) i .opened ≡ true → fault (laneAt (reached start calls) i .settings) packet ≡ 0
+    → repeats (laneAt (reached start calls) i) (space.count packet) ≡ true
+    → (replied start calls (takes i packet out) ≡ toPacket Repeat out) × (after (run (begun start) calls) (takes i packet out) ≡ run (begun start) calls)
 
 abbrev pub Opens : Type 0
 Opens =
-    (pool : List ℕ) (calls : List Call) (i : ℕ) (settings : Settings) → IsPool pool → i < 8 → laneAt (reached pool calls) i .opened ≡ false
-    → illegal settings ≡ false → settings .share + total (reached pool calls .lanes) ≤ 64
-    → replied pool calls (opens i settings) ≡ toOpening 0
+    (start : Start) (calls : List Call) (i : ℕ) (settings : Settings) → i < 8 → laneAt (reached start calls) i .opened ≡ false
+    → illegal settings ≡ false → settings .share + total (reached start calls .lanes) ≤ 64
+    → replied start calls (opens i settings) ≡ toOpening 0
 
 abbrev pub Closes : Type 0
 Closes =
-    (pool : List ℕ) (calls : List Call) (i : ℕ) (out : List ℕ) → IsPool pool → laneAt (reached pool calls) i .opened ≡ true
-    → recordSize ≤ length out → isRefused (replied pool calls (closes i out)) ≡ false
+    (start : Start) (calls : List Call) (i : ℕ) (out : List ℕ) → laneAt (reached start calls) i .opened ≡ true
+    → recordSize ≤ length out → isRefused (replied start calls (closes i out)) ≡ false
 
 -- ---- blocks: the mark of a block is the lane's number x 64 and a place, or says that it is free
 abbrev pub markAt : State → ℕ → ℕ
@@ -103,8 +103,8 @@ blocksOf s i = count (λ o. eqb (o / 64) i) (s .marks)
 -- No source ever holds more than its cap: the blocks that belong to it are those that its octets need, and no more than its cap
 abbrev pub WithinCap : Type 0
 WithinCap =
-    (pool : List ℕ) (calls : List Call) (i : ℕ) → IsPool pool → i < 8
-    → (blocksOf (reached pool calls) i ≡ held (laneAt (reached pool calls) i)) × (held (laneAt (reached pool calls) i) ≤ laneAt (reached pool calls) i .settings .cap)
+    (start : Start) (calls : List Call) (i : ℕ) → i < 8
+    → (blocksOf (reached start calls) i ≡ held (laneAt (reached start calls) i)) × (held (laneAt (reached start calls) i) ≤ laneAt (reached start calls) i .settings .cap)
 
 -- the block in which octet k of lane i's group lies
 abbrev pub blockOf : State → ℕ → ℕ → ℕ
@@ -113,41 +113,41 @@ blockOf s i k = place (s .marks) i k / blockOctets
 -- No block belongs to two sources: every octet of a group lies in a block of its lane, and octets in one block are of one lane and of one place in its group
 abbrev pub NoBlockInTwo : Type 0
 NoBlockInTwo =
-    (pool : List ℕ) (calls : List Call) (i j k l : ℕ) → IsPool pool
-    → k < laneAt (reached pool calls) i .octets → l < laneAt (reached pool calls) j .octets
-    → Belongs (reached pool calls) (blockOf (reached pool calls) i k) i
-    × (blockOf (reached pool calls) i k ≡ blockOf (reached pool calls) j l → (i ≡ j) × (k / blockOctets ≡ l / blockOctets))
+    (start : Start) (calls : List Call) (i j k l : ℕ)
+    → k < laneAt (reached start calls) i .octets → l < laneAt (reached start calls) j .octets
+    → Belongs (reached start calls) (blockOf (reached start calls) i k) i
+    × (blockOf (reached start calls) i k ≡ blockOf (reached start calls) j l → (i ≡ j) × (k / blockOctets ≡ l / blockOctets))
 
 -- no sequence of calls loses a block: each is free or belongs to a lane, and the free blocks and the held ones are always 64 in all
 abbrev pub NoneLost : Type 0
 NoneLost =
-    (pool : List ℕ) (calls : List Call) → IsPool pool
-    → ((b : ℕ) → b < 64 → (markAt (reached pool calls) b ≡ free) ⊎ ((i : ℕ) × Belongs (reached pool calls) b i))
-    × (count isFree (reached pool calls .marks) + sum (map held (reached pool calls .lanes)) ≡ 64)
+    (start : Start) (calls : List Call)
+    → ((b : ℕ) → b < 64 → (markAt (reached start calls) b ≡ free) ⊎ ((i : ℕ) × Belongs (reached start calls) b i))
+    × (count isFree (reached start calls .marks) + sum (map held (reached start calls .lanes)) ≡ 64)
 
 -- a call moves blocks only between the free ones and its lane's
 abbrev pub OnlyItsOwn : Type 0
 OnlyItsOwn =
-    (pool : List ℕ) (calls : List Call) (c : Call) (b : ℕ) → IsPool pool → b < 64
-    → (markAt (next pool calls c) b ≡ markAt (reached pool calls) b)
-    ⊎ (((markAt (reached pool calls) b ≡ free) ⊎ Belongs (reached pool calls) b (laneOf c))
-    × ((markAt (next pool calls c) b ≡ free) ⊎ Belongs (next pool calls c) b (laneOf c)))
+    (start : Start) (calls : List Call) (c : Call) (b : ℕ) → b < 64
+    → (markAt (next start calls c) b ≡ markAt (reached start calls) b)
+    ⊎ (((markAt (reached start calls) b ≡ free) ⊎ Belongs (reached start calls) b (laneOf c))
+    × ((markAt (next start calls c) b ≡ free) ⊎ Belongs (next start calls c) b (laneOf c)))
 
 -- octets not written stay: all that aren't in the group that the call's lane then has
 abbrev pub OctetsStay : Type 0
 OctetsStay =
-    (pool : List ℕ) (calls : List Call) (c : Call) (at : ℕ) → IsPool pool
-    → ((k : ℕ) → k < laneAt (next pool calls c) (laneOf c) .octets → place (next pool calls c .marks) (laneOf c) k ≡ at → ⊥)
-    → getD (after (run (freshWith pool) calls) c .pool) at 0 ≡ getD (run (freshWith pool) calls .pool) at 0
+    (start : Start) (calls : List Call) (c : Call) (at : ℕ)
+    → ((k : ℕ) → k < laneAt (next start calls c) (laneOf c) .octets → place (next start calls c .marks) (laneOf c) k ≡ at → ⊥)
+    → getD (after (run (begun start) calls) c .pool) at 0 ≡ getD (run (begun start) calls .pool) at 0
 
 -- ---- a freed block can be used again
 -- the blocks of a lane that has no open group after its call are free: the group ended or was given up, or the lane was closed. (Those of a group that a first
 -- packet gives up are freed before the new group's are taken, below)
 abbrev pub Freed : Type 0
 Freed =
-    (pool : List ℕ) (calls : List Call) (c : Call) (b : ℕ) → IsPool pool → Belongs (reached pool calls) b (laneOf c)
-    → laneAt (next pool calls c) (laneOf c) .grouped ≡ false
-    → markAt (next pool calls c) b ≡ free
+    (start : Start) (calls : List Call) (c : Call) (b : ℕ) → Belongs (reached start calls) b (laneOf c)
+    → laneAt (next start calls c) (laneOf c) .grouped ≡ false
+    → markAt (next start calls c) b ≡ free
 
 -- a packet that is held takes the lowest-numbered free blocks, in rising order, after a given-up group's are freed; every other block keeps its mark. Flags 1
 -- keep none of the lane's blocks, flags 0 all
@@ -172,19 +172,19 @@ marked s i packet b holds =
 
 abbrev pub TakesLowest : Type 0
 TakesLowest =
-    (pool : List ℕ) (calls : List Call) (i : ℕ) (packet out left : List ℕ) (m : ℕ) (gave : Bool) (b : ℕ) → IsPool pool → b < 64
-    → replied pool calls (takes i packet out) ≡ toPacket (Held m gave) left
-    → markAt (next pool calls (takes i packet out)) b ≡ marked (reached pool calls) i packet b (held (laneAt (next pool calls (takes i packet out)) i))
+    (start : Start) (calls : List Call) (i : ℕ) (packet out left : List ℕ) (m : ℕ) (gave : Bool) (b : ℕ) → b < 64
+    → replied start calls (takes i packet out) ≡ toPacket (Held m gave) left
+    → markAt (next start calls (takes i packet out)) b ≡ marked (reached start calls) i packet b (held (laneAt (next start calls (takes i packet out)) i))
 
 -- so: a block that a call of one lane frees, and that the next packet, of whatever lane, needs and has the room for, is that lane's
 abbrev pub UsedAgain : Type 0
 UsedAgain =
-    (pool : List ℕ) (calls : List Call) (c : Call) (b j : ℕ) (packet out : List ℕ) → IsPool pool
-    → Belongs (reached pool calls) b (laneOf c) → markAt (next pool calls c) b ≡ free
-    → NothingAmiss (laneAt (next pool calls c) j) packet out → repeats (laneAt (next pool calls c) j) (space.count packet) ≡ false
-    → HasRoom (next pool calls c) j packet
-    → placeFor (next pool calls c) j packet b < wouldHold (laneAt (next pool calls c) j) packet
-    → Belongs (reached pool (calls ++ c ∷ takes j packet out ∷ [])) b j
+    (start : Start) (calls : List Call) (c : Call) (b j : ℕ) (packet out : List ℕ)
+    → Belongs (reached start calls) b (laneOf c) → markAt (next start calls c) b ≡ free
+    → NothingAmiss (laneAt (next start calls c) j) packet out → repeats (laneAt (next start calls c) j) (space.count packet) ≡ false
+    → HasRoom (next start calls c) j packet
+    → placeFor (next start calls c) j packet b < wouldHold (laneAt (next start calls c) j) packet
+    → Belongs (reached start (calls ++ c ∷ takes j packet out ∷ [])) b j
 
 pub record Demand3 : Type 0 where
   pub as-alone : AsAlone

@@ -11,15 +11,15 @@ use Rattle.pool.specs.Matching.{count, isFree}
 use Rattle.lane.specs.declared.Settings.{Settings}
 use Rattle.intake.specs.declared.State.{State}
 use Rattle.intake.specs.declared.Answer.the-variants.{Refused, Repeat, Stray, Held, Unit}
-use Rattle.demands.specs.Runs.{IsPool, Intake, freshWith, Call, opens, takes, closes, Reply, toOpening, toPacket, toClosing, after, replies, own, repliesTo}
+use Rattle.demands.specs.Runs.{Intake, Start, begun, filled, Call, opens, takes, closes, Reply, toOpening, toPacket, toClosing, after, replies, own, repliesTo}
 use Rattle.demands.specs.Demand3.{StaysInShare, NoneUnpromised}
 
--- two pools of 16,384 octets with different content
-abbrev pub zeros : List ℕ
-zeros = replicate poolOctets 0
+-- two starts, with different content in the pool
+abbrev pub zeros : Start
+zeros = filled 0
 
-abbrev pub ones : List ℕ
-ones = replicate poolOctets 255
+abbrev pub ones : Start
+ones = filled 255
 
 -- settings of station 7, APID 42 and no secondary header
 abbrev pub settings : ℕ → ℕ → Settings
@@ -48,8 +48,8 @@ room n = replicate n 9
 
 -- lane i's calls of a run are replied so in company, and so alone, with another pool
 pub record Told (i : ℕ) (calls : List Call) (shared single : List Reply) : Type 0 where
-  pub in-company : repliesTo i (freshWith zeros) calls ≡ shared
-  pub alone : replies (freshWith ones) (own i calls) ≡ single
+  pub in-company : repliesTo i (begun zeros) calls ≡ shared
+  pub alone : replies (begun ones) (own i calls) ≡ single
 
 -- ---- two lanes interleave, in their shares
 -- lane 1 is another station's: APID 43, one octet of secondary header, 0xE0
@@ -139,15 +139,15 @@ unpromised =
 -- AsAlone (specs/Demand3.antt) without its one hypothesis, and without the other. Neither holds
 abbrev pub EvenAboveShare : Type 0
 EvenAboveShare =
-    (i : ℕ) (calls : List Call) (pool alone : List ℕ) → IsPool pool → IsPool alone
-    → NoneUnpromised (repliesTo i (freshWith pool) calls)
-    → repliesTo i (freshWith pool) calls ≡ replies (freshWith alone) (own i calls)
+    (i : ℕ) (calls : List Call) (shared alone : Start)
+    → NoneUnpromised (repliesTo i (begun shared) calls)
+    → repliesTo i (begun shared) calls ≡ replies (begun alone) (own i calls)
 
 abbrev pub EvenUnpromised : Type 0
 EvenUnpromised =
-    (i : ℕ) (calls : List Call) (pool alone : List ℕ) → IsPool pool → IsPool alone
-    → StaysInShare i (freshWith alone) (own i calls)
-    → repliesTo i (freshWith pool) calls ≡ replies (freshWith alone) (own i calls)
+    (i : ℕ) (calls : List Call) (shared alone : Start)
+    → StaysInShare i (begun alone) (own i calls)
+    → repliesTo i (begun shared) calls ≡ replies (begun alone) (own i calls)
 
 -- ---- all 64 blocks are used, freed and used again: by a lane that is closed, and by one that gives up its group for an unsegmented packet. Meanwhile
 -- there is no room for a single octet
@@ -207,21 +207,19 @@ toldShares20 =
 
 -- ---- all that is computed
 pub record Examples : Type 0 where
-  pub empty-zeros : IsPool zeros
-  pub empty-ones : IsPool ones
   -- each lane is replied in company what it is alone, and the hypotheses of AsAlone hold
   pub lane0 : Told 0 interleaved toldLane0 toldLane0
-  pub lane0-in-share : StaysInShare 0 (freshWith ones) (own 0 interleaved)
-  pub lane0-promised : NoneUnpromised (repliesTo 0 (freshWith zeros) interleaved)
+  pub lane0-in-share : StaysInShare 0 (begun ones) (own 0 interleaved)
+  pub lane0-promised : NoneUnpromised (repliesTo 0 (begun zeros) interleaved)
   pub lane1 : Told 1 interleaved toldLane1 toldLane1
-  pub lane1-in-share : StaysInShare 1 (freshWith ones) (own 1 interleaved)
-  pub lane1-promised : NoneUnpromised (repliesTo 1 (freshWith zeros) interleaved)
+  pub lane1-in-share : StaysInShare 1 (begun ones) (own 1 interleaved)
+  pub lane1-promised : NoneUnpromised (repliesTo 1 (begun zeros) interleaved)
   -- and neither hypothesis is idle
   pub crowded-differs : Told 0 crowded toldCrowded toldUncrowded
   pub share-is-needed : EvenAboveShare → ⊥
   pub unpromised-differs : Told 0 unpromised (toOpening 23 ∷ []) (toOpening 0 ∷ [])
   pub promise-is-needed : EvenUnpromised → ⊥
   -- whatever lies in the pool
-  pub all64-told : (pool : List ℕ) → IsPool pool → replies (freshWith pool) all64 ≡ toldAll64
-  pub all64-free : (pool : List ℕ) → IsPool pool → freeAround (freshWith pool) all64 ≡ freeAll64
-  pub shares20-told : (pool : List ℕ) → IsPool pool → replies (freshWith pool) shares20 ≡ toldShares20
+  pub all64-told : (start : Start) → replies (begun start) all64 ≡ toldAll64
+  pub all64-free : (start : Start) → freeAround (begun start) all64 ≡ freeAll64
+  pub shares20-told : (start : Start) → replies (begun start) shares20 ≡ toldShares20

@@ -4,7 +4,7 @@ use Prim.Native.Nat.{ℕ}
 use mathlib.Core.Path.{_≡_}
 use mathlib.Core.Bool.{Bool, cond}
 use mathlib.Core.List.{List, [], _∷_}
-use lib.ListN.{length}
+use lib.ListN.{length, replicate, length-replicate}
 use lib.Dec.{eqb}
 use Rattle.pool.specs.Blocks.{poolOctets}
 use Rattle.lane.specs.declared.Settings.{Settings}
@@ -22,12 +22,17 @@ pub record Intake : Type 0 where
   pub state : State
   pub pool : List ℕ
 
--- a fresh start; the pool is any of 16,384 octets, whatever lies in it
-abbrev pub freshWith : List ℕ → Intake
-freshWith pool = record { state = freshState; pool = pool }
+-- what a run starts with, beside the fresh state: a pool of 16,384 octets, whatever lies in it
+pub record Start : Type 0 where
+  pub pool : List ℕ
+  pub whole : length pool ≡ poolOctets
 
-abbrev pub IsPool : List ℕ → Type 0
-IsPool pool = length pool ≡ poolOctets
+abbrev pub begun : Start → Intake
+begun start = record { state = freshState; pool = start .pool }
+
+-- one with a pool that is filled with one octet
+abbrev pub filled : ℕ → Start
+filled octet = record { pool = replicate poolOctets octet; whole = length-replicate poolOctets octet }
 
 -- ---- a call names a lane by any number; a packet and a closing come with an output
 pub data Call : Type 0 where
@@ -63,14 +68,14 @@ replies x [] = []
 replies x (c ∷ calls) = reply x c ∷ replies (after x c) calls
 
 -- from a fresh start: the state that is reached; what one more call is replied, and the state after it
-abbrev pub reached : List ℕ → List Call → State
-reached pool calls = run (freshWith pool) calls .state
+abbrev pub reached : Start → List Call → State
+reached start calls = run (begun start) calls .state
 
-abbrev pub replied : List ℕ → List Call → Call → Reply
-replied pool calls c = reply (run (freshWith pool) calls) c
+abbrev pub replied : Start → List Call → Call → Reply
+replied start calls c = reply (run (begun start) calls) c
 
-abbrev pub next : List ℕ → List Call → Call → State
-next pool calls c = after (run (freshWith pool) calls) c .state
+abbrev pub next : Start → List Call → Call → State
+next start calls c = after (run (begun start) calls) c .state
 
 -- ---- A source is a lane number; its own calls are all those that name it, in order
 abbrev pub laneOf : Call → ℕ

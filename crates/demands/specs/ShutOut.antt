@@ -12,10 +12,9 @@ use Rattle.lane.specs.declared.Lane.{Lane}
 use Rattle.intake.specs.declared.Answer.{Answer}
 use Rattle.intake.specs.declared.Answer.the-variants.{Refused, Repeat, Stray, Held, Unit}
 use Rattle.intake.specs.State.{laneAt}
-use Rattle.demands.specs.Runs.{Intake, freshWith, Call, takes, closes, Reply, toOpening, toPacket, toClosing, reply, after, names}
+use Rattle.demands.specs.Runs.{Intake, Start, begun, Call, takes, closes, Reply, toOpening, toPacket, toClosing, reply, after, names}
 use Rattle.demands.specs.Rule.{missing, credit}
 use Rattle.demands.specs.Past.{Past, shut, since, acceptedOf, isRefused, later}
-use Rattle.demands.specs.Runs.{IsPool}
 
 -- an intake is whatever replies to a call and leaves a state and a pool after it, and tells something of octets that it reads
 pub record AnyIntake : Type 0 where
@@ -34,22 +33,22 @@ unfoldable pub ranFrom : AnyIntake → Intake → List Call → Intake
 ranFrom n x [] = x
 ranFrom n x (c ∷ calls) = ranFrom n (n .leaves x c) calls
 
-abbrev pub ran : AnyIntake → List ℕ → List Call → Intake
-ran n pool calls = ranFrom n (freshWith pool) calls
+abbrev pub ran : AnyIntake → Start → List Call → Intake
+ran n start calls = ranFrom n (begun start) calls
 
 -- lane i's past, by its own replies
 unfoldable pub pastBy : AnyIntake → ℕ → Past → Intake → List Call → Past
 pastBy n i past x [] = past
 pastBy n i past x (c ∷ calls) = pastBy n i (cond (names i c) (later past c (n .replies-to x c)) past) (n .leaves x c) calls
 
-abbrev pub ownPast : AnyIntake → ℕ → List ℕ → List Call → Past
-ownPast n i pool calls = pastBy n i shut (freshWith pool) calls
+abbrev pub ownPast : AnyIntake → ℕ → Start → List Call → Past
+ownPast n i start calls = pastBy n i shut (begun start) calls
 
 -- ---- an intake that refuses everything: every packet, whatever it does with openings and closings
 abbrev pub RefusesEverything : AnyIntake → Type 0
 RefusesEverything n =
-    (pool : List ℕ) (calls : List Call) (i : ℕ) (packet out : List ℕ) → IsPool pool
-    → isRefused (n .replies-to (ran n pool calls) (takes i packet out)) ≡ true
+    (start : Start) (calls : List Call) (i : ℕ) (packet out : List ℕ)
+    → isRefused (n .replies-to (ran n start calls) (takes i packet out)) ≡ true
 
 -- ---- one constant answer: at each point of a run all packets get one answer, whatever is in them
 abbrev pub answerIn : Reply → Option Answer
@@ -59,8 +58,8 @@ answerIn (toClosing refusal out) = none
 
 abbrev pub AnswersConstantly : AnyIntake → Type 0
 AnswersConstantly n =
-    (pool : List ℕ) (calls : List Call) (i : ℕ) (packet other out : List ℕ) → IsPool pool
-    → answerIn (n .replies-to (ran n pool calls) (takes i packet out)) ≡ answerIn (n .replies-to (ran n pool calls) (takes i other out))
+    (start : Start) (calls : List Call) (i : ℕ) (packet other out : List ℕ)
+    → answerIn (n .replies-to (ran n start calls) (takes i packet out)) ≡ answerIn (n .replies-to (ran n start calls) (takes i other out))
 
 -- and the same of the reader
 abbrev pub ReadsConstantly : AnyIntake → Type 0
@@ -69,8 +68,8 @@ ReadsConstantly n = (s other : List ℕ) → n .reads s ≡ n .reads other
 -- ---- one that stores nothing: no packet changes the pool
 abbrev pub StoresNothing : AnyIntake → Type 0
 StoresNothing n =
-    (pool : List ℕ) (calls : List Call) (i : ℕ) (packet out : List ℕ) → IsPool pool
-    → n .leaves (ran n pool calls) (takes i packet out) .pool ≡ ran n pool calls .pool
+    (start : Start) (calls : List Call) (i : ℕ) (packet out : List ℕ)
+    → n .leaves (ran n start calls) (takes i packet out) .pool ≡ ran n start calls .pool
 
 -- ---- one that handles the first packet and then only nods: once a lane has taken a packet, no further one changes its tallies
 abbrev tallies : Lane → List ℕ
@@ -78,9 +77,9 @@ tallies l = l .units ∷ l .packets ∷ l .missing ∷ l .broken ∷ []
 
 abbrev pub OnlyNods : AnyIntake → Type 0
 OnlyNods n =
-    (pool : List ℕ) (calls : List Call) (i : ℕ) (packet out : List ℕ) → IsPool pool
-    → 0 < laneAt (ran n pool calls .state) i .packets
-    → tallies (laneAt (n .leaves (ran n pool calls) (takes i packet out) .state) i) ≡ tallies (laneAt (ran n pool calls .state) i)
+    (start : Start) (calls : List Call) (i : ℕ) (packet out : List ℕ)
+    → 0 < laneAt (ran n start calls .state) i .packets
+    → tallies (laneAt (n .leaves (ran n start calls) (takes i packet out) .state) i) ≡ tallies (laneAt (ran n start calls .state) i)
 
 -- ---- a made-up missing count: somewhere it tells another than the formula gives for the packets that it had accepted
 -- the missing count that a reply tells; a Repeat's is always 0
@@ -98,15 +97,14 @@ missingBy shut packet = none
 missingBy (since settings packets) packet = some (missing packets (acceptedOf settings packet))
 
 pub record MakesUpMissing (n : AnyIntake) : Type 0 where
-  pub pool : List ℕ
-  pub empty : IsPool pool
+  pub start : Start
   pub calls : List Call
   pub lane : ℕ
   pub packet : List ℕ
   pub out : List ℕ
   pub told : ℕ
-  pub tells : missingTold (n .replies-to (ran n pool calls) (takes lane packet out)) ≡ some told
-  pub otherwise : missingBy (ownPast n lane pool calls) packet ≡ some told → ⊥
+  pub tells : missingTold (n .replies-to (ran n start calls) (takes lane packet out)) ≡ some told
+  pub otherwise : missingBy (ownPast n lane start calls) packet ≡ some told → ⊥
 
 -- ---- a made-up credit: some closing leaves another record than the grouping rule gives for the packets that it had accepted
 abbrev pub creditBy : Past → List ℕ → Option (List ℕ)
@@ -114,14 +112,13 @@ creditBy shut out = none
 creditBy (since settings packets) out = some (put out 0 (octetsOf (credit settings packets)))
 
 pub record MakesUpCredit (n : AnyIntake) : Type 0 where
-  pub pool : List ℕ
-  pub empty : IsPool pool
+  pub start : Start
   pub calls : List Call
   pub lane : ℕ
   pub out : List ℕ
   pub credited : List ℕ
-  pub writes : n .replies-to (ran n pool calls) (closes lane out) ≡ toClosing 0 credited
-  pub otherwise : creditBy (ownPast n lane pool calls) out ≡ some credited → ⊥
+  pub writes : n .replies-to (ran n start calls) (closes lane out) ≡ toClosing 0 credited
+  pub otherwise : creditBy (ownPast n lane start calls) out ≡ some credited → ⊥
 
 -- ---- none of them keeps the promises
 abbrev pub IsShutOut : (AnyIntake → Type 0) → Type 0

@@ -3,7 +3,6 @@
 use Prim.Native.Nat.{ℕ, _+_, _/_, _%_}
 use mathlib.Core.Bool.{false}
 use mathlib.Core.List.{List, [], _∷_}
-use lib.ListN.{replicate}
 use Rattle.packet.specs.Reading.{reading, content}
 use Rattle.packet.specs.Told.{told}
 use Rattle.packet.specs.declared.Packet.the-variants.{Space, Encapsulation, Refused}
@@ -11,7 +10,7 @@ use Rattle.pool.specs.Blocks.{poolOctets}
 use Rattle.intake.specs.declared.Answer.{Answer}
 use Rattle.intake.specs.declared.Answer.the-variants.{Repeat, Unit}
 use Rattle.intake.specs.After.{taking}
-use Rattle.demands.specs.Runs.{Intake, freshWith, opens, takes, run}
+use Rattle.demands.specs.Runs.{Intake, begun, filled, opens, takes, run}
 
 -- a case of each kind that the paper has, with what comes of it
 infix 15 last_then_gives_
@@ -28,7 +27,7 @@ counting c = 0x00 ∷ 0x2A ∷ (0xC0 + c / 256) ∷ (c % 256) ∷ 0x00 ∷ 0x00 
 -- lane 0 is opened for APID 42 and takes one such packet
 abbrev pub lastWas : ℕ → Intake
 lastWas c =
-    run (freshWith (replicate poolOctets 0))
+    run (begun (filled 0))
     (opens 0 (record { station = 7; apid = 42; secondary = 0; share = 1; cap = 2 })
     ∷ takes 0 (counting c) (0 ∷ [])
     ∷ [])
