@@ -40,10 +40,27 @@ every_edit_is_listed() {
         <({ listed_answers | awk '{ print $2 }' && echo a_wrong_row; } | sort)
 }
 
-# Not because the edit broke a name or made a proof unfit for the code's shape.
+# The prover said of that very function that it is not proved; and not that a name is unknown, that the proof is for code of another shape, or that it
+# doesn't know such code. This alone does not show that the edited code is wrong: a proof may also fail where right code was written in another way.
+# So an edit keeps the code's form (below): what it changes is a constant, a variable or an argument, and the same form with the right one is proved.
 stands_at_a_fact() {
     local log=target/must-fail/${1%%::*}/$2/.log
-    grep -E "^fn $1: (not proved|no proof)" "$log" && ! grep -E 'has no `Need-|is not in scope|binders, but its type' "$log"
+    grep -E "^fn $1: (not proved|no proof)" "$log" && ! grep -E 'has no `Need-|is not in scope|binders, but its type|does not cover this function' "$log"
+}
+
+# operators WORD EDIT: those in the lines of an edit of code that begin with WORD, in their order; text in quotes has none.
+operators() {
+    grep -q '^file: src/' "$2" || return
+    grep "^$1" "$2" | sed -E "s/^$1//; s/b?\"[^\"]*\"|b?'[^']*'//g; s/=>|->//g" | grep -oE '<=|>=|==|!=|&&|\|\||[<>!+*/%|]|&( |mut )|-' | tr '\n' ' '
+}
+
+# An edit of code changes no operator: the proof of `a < b` does not fit `a <= b` either where that would be right.
+every_edit_keeps_the_operators() {
+    local edit bad=0
+    for edit in crates/*/must-fail/*.edit; do
+        [ "$(operators old: "$edit")" = "$(operators new: "$edit")" ] || { echo "$edit"; bad=1; }
+    done
+    return "$bad"
 }
 
 check 'no public function has a requires' no_public_requires
@@ -51,6 +68,7 @@ check 'every public function has an ensures' every_public_ensures
 check 'every public function is in demand 1' every_function_is_in_demand_1
 check 'docs/PROMISES.md has two wrong answers for every public function' every_function_has_two_wrong_answers
 check 'docs/PROMISES.md and the must-fail edits are the same' every_edit_is_listed
+check 'every must-fail edit of code keeps its operators' every_edit_keeps_the_operators
 while read -r function edit; do
     check "$function rules out $edit" stands_at_a_fact "$function" "$edit"
 done < <(listed_answers)
