@@ -9,12 +9,12 @@ use lib.Seq.{length-take-le}
 use Rattle.octets.specs.Output.{unlessRefused}
 use Rattle.octets.proofs.Order.{set-anew, kept}
 use Rattle.packet.specs.Space.{version, spaceHeader}
-use Rattle.packet.specs.Reading.{header, size, refusal, content, contentAt}
+use Rattle.reading.specs.Reading.{header, size, refusal, content, contentAt}
 use Rattle.packet.specs.Told.{sizeOf, headerOf}
 use Rattle.packet.specs.declared.Packet.{Packet}
 use Rattle.packet.specs.declared.Packet.the-variants.{Space, Encapsulation, Refused}
-use Rattle.packet.proofs.Within.{within}
-use Rattle.packet.proofs.Answers.{Says, part-told}
+use Rattle.reading.proofs.Within.{within}
+use Rattle.reading.proofs.Answers.{Says, part-told}
 use Rattle.branmuslin.specs.Lent.{packetNumbers}
 
 -- the data lies after the header, and has as many octets as the reader told

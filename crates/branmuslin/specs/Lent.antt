@@ -7,10 +7,11 @@ use lib.Dec.{eqb}
 use Rattle.octets.specs.Output.{unlessRefused}
 use Rattle.packet.specs.Space.{packetType, secondary, apid, flags, count}
 use Rattle.packet.specs.Encapsulation.{protocol, user, extension}
-use Rattle.packet.specs.Reading.{isSpace, refusal, content, contentAt}
+use Rattle.reading.specs.Reading.{isSpace, refusal, content, contentAt}
 use Rattle.writing.specs.Space.{spaceOctets, spaceRefusal}
 use Rattle.writing.specs.Encapsulation.{encapOctets, encapRefusal}
-use Rattle.record.specs.Record.{fieldsIn}
+use Rattle.record.specs.Record.{recordIn, fields}
+use Rattle.record.specs.declared.Record.{Record}
 use Rattle.record.specs.Reading.{recordRefusal, recordsIn, impossibleIn, fileRefusal}
 
 -- struct branmuslin_packet: version; type, secondary, apid, flags, count; protocol, user, extension; then where the data begins, and its octets
@@ -30,9 +31,14 @@ spaceWrittenAfter t x a f c field out old = unlessRefused (spaceRefusal t x a f 
 abbrev pub encapWrittenAfter : ℕ → ℕ → ℕ → List ℕ → List ℕ → ℕ → ℕ
 encapWrittenAfter p u x given out old = unlessRefused (encapRefusal p u x (length given) (length out)) (length (encapOctets p u x given)) old
 
+-- the record of six numbers that are handed in
+abbrev pub handed : ℕ → ℕ → ℕ → ℕ → ℕ → ℕ → Record
+handed station apid units packets missing broken =
+    record { station = station; apid = apid; units = units; packets = packets; missing = missing; broken = broken }
+
 -- struct branmuslin_record
 abbrev pub recordNumbersAfter : List ℕ → List ℕ → List ℕ
-recordNumbersAfter s old = unlessRefused (recordRefusal s) (fieldsIn s) old
+recordNumbersAfter s old = unlessRefused (recordRefusal s) (fields (recordIn s)) old
 
 -- the number of records; and the index of the first impossible one, which belongs to refusal 25
 abbrev pub recordsAfter : List ℕ → ℕ → ℕ

@@ -5,12 +5,12 @@ mod numbers;
 
 ghost use mathlib.Core.Path.{_≡_};
 ghost use lib.ListN.{length};
-ghost use Rattle.packet.specs.Reading.{refusal};
+ghost use Rattle.reading.specs.Reading.{refusal};
 ghost use Rattle.writing.specs.Space.{spaceRefusal, spaceAfter};
 ghost use Rattle.writing.specs.Encapsulation.{encapRefusal, encapAfter};
 ghost use Rattle.record.specs.Reading.{recordRefusal, fileRefusal};
 ghost use Rattle.record.specs.Writing.{writingRefusal, recordAfter};
-ghost use Rattle.branmuslin.specs.Lent.{packetAfter, spaceWrittenAfter, encapWrittenAfter, recordNumbersAfter, recordsAfter, indexAfter};
+ghost use Rattle.branmuslin.specs.Lent.{packetAfter, spaceWrittenAfter, encapWrittenAfter, handed, recordNumbersAfter, recordsAfter, indexAfter};
 use numbers::encapsulation_numbers;
 use numbers::space_numbers;
 use packet::Packet;
@@ -26,7 +26,7 @@ pub extern "C" fn branmuslin_read_packet(octets: &[u8], numbers: &mut [u32; 11])
     ensures { λ r. ⌜ r ≡ refusal (now (octets .entry)) ⌝ }
     ensures { λ _. ⌜ now (numbers .exit) ≡ packetAfter (now (octets .entry)) (now (numbers .entry)) ⌝ }
 {
-    let p = packet::read_packet(octets);
+    let p = reading::read_packet(octets);
     match p {
         Packet::Space {
             packet_type,
@@ -114,8 +114,8 @@ pub extern "C" fn branmuslin_write_record(
     broken: u32,
     out: &mut [u8],
 ) -> u8
-    ensures { λ r. ⌜ r ≡ writingRefusal apid units packets missing broken (length (now (out .entry))) ⌝ }
-    ensures { λ _. ⌜ now (out .exit) ≡ recordAfter station apid units packets missing broken (now (out .entry)) ⌝ }
+    ensures { λ r. ⌜ r ≡ writingRefusal (handed station apid units packets missing broken) (length (now (out .entry))) ⌝ }
+    ensures { λ _. ⌜ now (out .exit) ≡ recordAfter (handed station apid units packets missing broken) (now (out .entry)) ⌝ }
 {
     let w = record::write_record(
         Record {

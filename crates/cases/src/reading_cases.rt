@@ -47,9 +47,9 @@ fn read_case(s: &[u8]) {
     say(b"read");
     say_octets(s);
     say(b":");
-    say_packet(packet::read_packet(s));
+    say_packet(reading::read_packet(s));
     say(b" data");
-    say_octets(packet::data_of(s));
+    say_octets(reading::data_of(s));
     say(b"\n");
 }
 

@@ -11,18 +11,18 @@ use lib.ListN.{length, getD, set}
 use lib.Seq.{getD-set-other}
 use Rattle.octets.proofs.Order.{either, both}
 use Rattle.packet.specs.Space.{flags, count}
-use Rattle.pool.specs.Blocks.{free, mark, blocksFor, freedMark, freed}
+use Rattle.marks.specs.Blocks.{free, mark, blocksFor, freedMark, freed}
 use Rattle.pool.specs.Octets.{place, stored}
-use Rattle.pool.specs.Matching.{isFree}
+use Rattle.marks.specs.Matching.{isFree}
 use Rattle.lane.specs.declared.Lane.{Lane}
-use Rattle.lane.specs.declared.Added.{Added}
-use Rattle.lane.specs.declared.Step.{Step}
-use Rattle.lane.specs.declared.Step.the-variants.{Hold}
-use Rattle.lane.specs.Lane.{held}
-use Rattle.lane.specs.Packets.{fault, userOctets}
-use Rattle.lane.specs.Grouping.{repeats, goesOn}
-use Rattle.lane.specs.Plans.{holdPlan, groupingPlan, acceptedPlan, packetPlan}
-use Rattle.lane.specs.Steps.{laneAfter}
+use Rattle.grouping.specs.declared.Added.{Added}
+use Rattle.grouping.specs.declared.Step.{Step}
+use Rattle.grouping.specs.declared.Step.the-variants.{Hold}
+use Rattle.lane.specs.Lane.{held, holding}
+use Rattle.grouping.specs.Packets.{fault, userOctets}
+use Rattle.grouping.specs.Grouping.{repeats, goesOn}
+use Rattle.grouping.specs.Plans.{holdPlan, groupingPlan, acceptedPlan, packetPlan}
+use Rattle.grouping.specs.Steps.{laneAfter}
 use Rattle.lane.proofs.Fine.{is-fine}
 use Rattle.intake.specs.declared.State.{State}
 use Rattle.intake.specs.declared.Answer.the-variants.{Held}
@@ -32,7 +32,7 @@ use Rattle.intake.specs.After.{marksAfter, poolAfter, userOf, taking, takingPoo
 use Rattle.demands.specs.Runs.{Intake, begun, Call, opens, takes, closes, toPacket, reply, after, run, next}
 use Rattle.demands.specs.Order.{wouldHold}
 use Rattle.demands.specs.Demand3.{markAt, Belongs, marksFor, placeFor, OctetsStay, UsedAgain}
-use Rattle.demands.proofs.Sound.{Sound, lane-fine, opened-small}
+use Rattle.demands.proofs.Sound.{Sound, lane-fine, opened-small, need-open}
 use Rattle.demands.proofs.Steps.{Stepped, refuses, repeats as again, strays, ends, holds, stepped}
 use Rattle.demands.proofs.Calls.{after-sound, reached-sound}
 use Rattle.demands.proofs.View.{Slot, stepFor, after-size, run-size, settled, took-reply, took-slot}
@@ -78,23 +78,23 @@ module _ (l : Lane) (p : List ℕ) (room o w : ℕ) (most : w ≤ l .settings .c
   abbrev HoldsThen : Step → Type 0
   HoldsThen d = (a : Added) × ((on : Bool) × ((n : ℕ) × ((d ≡ Hold a on n) × (blocksFor n ≡ w))))
 
-  fits-then : (a : Added) (on : Bool) (n : ℕ) → blocksFor n ≡ w → HoldsThen (settle o (holdPlan (l .settings) a on n))
+  fits-then : l .opened ≡ true → (a : Added) (on : Bool) (n : ℕ) → blocksFor n ≡ w → HoldsThen (settle l o (holdPlan (l .settings) a on n))
   unfolding holdPlan settle
-  fits-then a on n e =
-      (a, (on, (n, (simp (le-ltb (l .settings .cap) (blocksFor n) (omega (arith, most, e)), le-leb (max (blocksFor n) (l .settings .share) + o) 64 (rw e beside)), e))))
+  fits-then open′ a on n e =
+      (a, (on, (n, (simp (need-open (holding l n) open′, le-ltb (l .settings .cap) (blocksFor n) (omega (arith, most, e)), le-leb (max (blocksFor n) (l .settings .share) + o) 64 (rw e beside)), e))))
 
-  holds-then : l .opened ≡ true → fault (l .settings) p ≡ 0 → repeats l (count p) ≡ false → l .packets < 262144 → wouldHold l p ≡ w → 0 < w → HoldsThen (settle o (packetPlan l p room))
+  holds-then : l .opened ≡ true → fault (l .settings) p ≡ 0 → repeats l (count p) ≡ false → l .packets < 262144 → wouldHold l p ≡ w → 0 < w → HoldsThen (settle l o (packetPlan l p room))
   unfolding packetPlan acceptedPlan groupingPlan wouldHold
   holds-then open′ sound new few e some =
       let user : ℕ = userOctets (l .settings) p in
       simp (open′, sound, new, lt-leb 262144 (l .packets) few)
       (either (eqb (flags p) 1)
-      (λ f. let z = eqb-true (flags p) 1 f in simp z (fits-then _ false user (simp z at e)))
+      (λ f. let z = eqb-true (flags p) 1 f in simp z (fits-then open′ _ false user (simp z at e)))
       (λ f. either (eqb (flags p) 0 && goesOn l (flags p) (count p))
       (λ h. let g = both (eqb (flags p) 0) (goesOn l (flags p) (count p)) h in
       let z = eqb-true (flags p) 0 (g .0) in
       let on : goesOn l 0 (count p) ≡ true = rw z at (g .1) in
-      simp (z, on) (fits-then _ true (l .octets + user) (simp (z, on) at e)))
+      simp (z, on) (fits-then open′ _ true (l .octets + user) (simp (z, on) at e)))
       (λ h. absurd (omega (arith, simp (f, h) at e, some)))))
 
 -- a free block is free among the marks in which the lane looks

@@ -1,7 +1,7 @@
 -- A source within its share is answered as if alone. The shared run and the run of its own calls go side by side: the lane looks the same in both, and in
 -- the second no other lane is open. What is done is planned from the lane alone; where the plan asks for room, it asks for the share, and a share that
 -- was promised fits in both.
-use Prim.Native.Nat.{ℕ, zero, suc, _+_, _≤_, max}
+use Prim.Native.Nat.{ℕ, zero, suc, _+_, _≤_}
 use mathlib.Core.Path.{_≡_, refl, sym, ap, ap₂, subst, _∙_}
 use mathlib.Core.Bool.{true, false}
 use mathlib.Core.List.{List, [], _∷_}
@@ -12,29 +12,29 @@ use lib.ListN.{length, getD, set, replicate}
 use lib.Seq.{set-set}
 use Rattle.octets.specs.Output.{unlessRefused, outputAfter}
 use Rattle.octets.proofs.Order.{either}
-use Rattle.record.specs.Told.{octetsOf}
-use Rattle.pool.specs.Blocks.{blocksFor}
+use Rattle.record.specs.Record.{recordOctets}
+use Rattle.marks.specs.Blocks.{blocksFor}
 use Rattle.pool.specs.Octets.{gathered}
 use Rattle.lane.specs.declared.Settings.{Settings}
 use Rattle.lane.specs.declared.Lane.{Lane}
-use Rattle.lane.specs.declared.Step.{Step}
-use Rattle.lane.specs.declared.Step.the-variants.{Hold}
-use Rattle.lane.specs.declared.Plan.{Plan}
-use Rattle.lane.specs.Lane.{closed, held, need, illegal}
-use Rattle.lane.specs.Packets.{userData}
-use Rattle.lane.specs.Plans.{packetPlan}
-use Rattle.lane.specs.Steps.{laneAfter}
+use Rattle.grouping.specs.declared.Step.{Step}
+use Rattle.grouping.specs.declared.Step.the-variants.{Hold}
+use Rattle.grouping.specs.declared.Plan.{Plan}
+use Rattle.lane.specs.Lane.{closed, held, need, illegal, creditOf, holding}
+use Rattle.grouping.specs.Packets.{userData}
+use Rattle.grouping.specs.Plans.{packetPlan}
+use Rattle.grouping.specs.Steps.{laneAfter}
 use Rattle.lane.proofs.Fine.{is-fine, is-legal}
-use Rattle.lane.proofs.Planned.{Planned, planned, refuses, repeats, strays, ends, holds}
+use Rattle.grouping.proofs.Planned.{Planned, planned, refuses, repeats, strays, ends, holds}
 use Rattle.intake.specs.declared.State.{State}
 use Rattle.intake.specs.State.{freshState, laneAt, total, others}
 use Rattle.intake.specs.Calls.{openingRefusal, closingRefusal, settle}
-use Rattle.intake.specs.After.{openedWith, opening, closing, creditOf, closingOut, answerOf, taking}
+use Rattle.intake.specs.After.{openedWith, opening, closing, closingOut, answerOf, taking}
 use Rattle.demands.specs.Runs.{Intake, Start, begun, Call, opens, takes, closes, Reply, toOpening, toPacket, reply, after, run, replies, laneOf, names, own, repliesTo}
 use Rattle.demands.specs.Runs as runs
 use Rattle.demands.specs.Demand3.{StaysInShare, NoneUnpromised, AsAlone}
 use Rattle.demands.proofs.Lanes.{need-closed, total-at}
-use Rattle.demands.proofs.Sound.{Sound, not-unsound, fresh, lane-fine, unless}
+use Rattle.demands.proofs.Sound.{Sound, not-unsound, fresh, lane-fine, need-open, unless}
 use Rattle.demands.proofs.Order.{share-fits}
 use Rattle.demands.proofs.Calls.{after-sound}
 use Rattle.demands.proofs.View.{Slot, slotIn, slotAfter, outFrom, stepFor, without, after-size, settled, took-reply, took-slot, opened-slot, closed-slot, other-slot}
@@ -44,7 +44,7 @@ abbrev InShare : Lane → Type 0
 InShare l = held l ≤ l .settings .share
 
 -- ---- a plan is settled alike beside others as beside none, where the lane then holds no more than its share and the share fits beside the others
-same-step : (l : Lane) (p : List ℕ) (room o : ℕ) {d : Plan} → Planned l p room d → (l .opened ≡ true → l .settings .share + o ≤ 64) → InShare (laneAfter l (settle 0 d)) → settle o d ≡ settle 0 d
+same-step : (l : Lane) (p : List ℕ) (room o : ℕ) {d : Plan} → Planned l p room d → (l .opened ≡ true → l .settings .share + o ≤ 64) → InShare (laneAfter l (settle l 0 d)) → settle l o d ≡ settle l 0 d
 unfolding settle laneAfter
 same-step l p room o (refuses n few h) fits w = refl
 same-step l p room o repeats fits w = refl
@@ -52,7 +52,8 @@ same-step l p room o (strays a on f g) fits w = refl
 same-step l p room o (ends a on n op f g e h) fits w = refl
 same-step l p room o (holds a on n op f g e h t) fits w =
     let good = is-fine (laneAfter l (Hold a on n)) g in
-    let asks : ℕ = max (blocksFor n) (l .settings .share) in
+    let asks : ℕ = need (holding l n) in
+    let larger = need-open (holding l n) op in
     let alone : leb (asks + 0) 64 ≡ true = le-leb (asks + 0) 64 (omega (arith, good .within, good .legal op .share, good .legal op .cap)) in
     let few : blocksFor n ≤ l .settings .share = simp alone at w in
     let beside : leb (asks + o) 64 ≡ true = le-leb (asks + o) 64 (omega (arith, fits op)) in
@@ -78,8 +79,8 @@ module _ (i : ℕ) (x y : Intake) (k : Alike i x y) where
     same-decision : InShare (laneAt (after y (takes i p out) .state) i) → stepFor x i p out ≡ stepFor y i p out
     same-decision w =
         let l : Lane = laneAt (x .state) i in
-        let theirs : stepFor y i p out ≡ settle 0 (packetPlan l p (length out)) = settled y (k .alone) (k .size-alone) i p out ∙ rw (k .no-other, same-lane) in
-        let then : InShare (laneAfter l (settle 0 (packetPlan l p (length out)))) =
+        let theirs : stepFor y i p out ≡ settle l 0 (packetPlan l p (length out)) = settled y (k .alone) (k .size-alone) i p out ∙ rw (k .no-other, same-lane) in
+        let then : InShare (laneAfter l (settle l 0 (packetPlan l p (length out)))) =
         subst InShare (ap (λ (v : Slot). v .lane) (took-slot y (k .alone) (k .size-alone) i p out) ∙ ap₂ laneAfter (sym same-lane) theirs) w in
         settled x (k .shared) (k .size) i p out
         ∙ same-step l p (length out) (others (x .state .lanes) i) (planned l p (length out) (lane-fine (x .state) (k .shared) i)) (share-fits (x .state) (k .shared) i) then
@@ -135,7 +136,7 @@ module _ (i : ℕ) (x y : Intake) (k : Alike i x y) where
     closed-together : Together (closes i out)
     unfolding reply closing closingOut
     closed-together = (
-      ap₂ (λ (n : ℕ) (l : Lane). runs.toClosing n (outputAfter n (octetsOf (creditOf l)) out)) same-closing same-lane,
+      ap₂ (λ (n : ℕ) (l : Lane). runs.toClosing n (outputAfter n (recordOctets (creditOf l)) out)) same-closing same-lane,
       closed-slot x (k .shared) (k .size) i out ∙ ap₂ (λ (n : ℕ) (v : Slot). unlessRefused n (without closed) v) same-closing (k .slot)
           ∙ sym (closed-slot y (k .alone) (k .size-alone) i out),
     )

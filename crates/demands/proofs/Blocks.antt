@@ -8,12 +8,12 @@ use native.Mathlib.Decide.{decLt}
 use native.Mathlib.Nat.{zero-add}
 use native.Mathlib.Omega.{arith}
 use lib.ListN.{length, getD, set, length-set, length-map}
-use Rattle.pool.specs.Blocks.{free, mark, find}
-use Rattle.pool.specs.Matching.{count, isFree, sum}
-use Rattle.pool.proofs.Finding.{by-case, at-front, past-front}
-use Rattle.pool.proofs.Counts.{counts-one, counts-none}
-use Rattle.pool.proofs.Sums.{places-within, laneBlocks, lanes-within, AtLeast, sum-within}
-use Rattle.pool.proofs.Matched.{Matched, matched}
+use Rattle.marks.specs.Blocks.{free, mark, find}
+use Rattle.marks.specs.Matching.{count, isFree, sum}
+use Rattle.marks.proofs.Finding.{by-case, at-front, past-front}
+use Rattle.marks.proofs.Counts.{counts-one, counts-none}
+use Rattle.marks.proofs.Sums.{places-within, laneBlocks, lanes-within, AtLeast, sum-within}
+use Rattle.marks.proofs.Matched.{Matched, matched}
 use Rattle.lane.specs.Lane.{held}
 use Rattle.intake.specs.declared.State.{State}
 use Rattle.intake.specs.State.{laneAt}

@@ -11,9 +11,8 @@ use lib.ListN.{length, length-set}
 use Rattle.lane.specs.declared.Settings.{Settings}
 use Rattle.octets.specs.Octets.{one}
 use Rattle.lane.specs.Lane.{closed, illegal, fine}
-use Rattle.lane.proofs.Fine.{Legal, is-legal, is-fine, fine-is}
-use Rattle.lane.proofs.Accepted.{passes}
-use Rattle.lane.proofs.Planned.{none-held}
+use Rattle.lane.proofs.Fine.{Legal, is-legal, is-fine, fine-is, none-held}
+use Rattle.grouping.proofs.Accepted.{passes}
 use Rattle.intake.specs.declared.State.{State}
 use Rattle.intake.specs.State.{laneAt, total, unsound}
 use Rattle.intake.specs.Calls.{openingRefusal, closingRefusal, packetStep}

@@ -9,13 +9,13 @@ use native.Mathlib.Omega.{arith}
 use borrow.Author.Tests.{eq-eqb, le-ltb}
 use lib.ListN.{length}
 use Rattle.octets.specs.Output.{put}
-use Rattle.octets.proofs.Again.{read-two, read-four}
-use Rattle.record.specs.Record.{unitsIn, recordOctets}
+use Rattle.octets.proofs.Again.{read-four}
+use Rattle.record.specs.Record.{recordIn, recordOctets, possible}
 use Rattle.record.specs.Reading.{possibleAt, possibleBefore, recordsIn, fileReading}
-use Rattle.record.specs.Told.{octetsOf}
+use Rattle.record.specs.Writing.{writingRefusal}
 use Rattle.record.specs.declared.Record.{Record}
 use Rattle.record.proofs.Answers.{read-fields}
-use Rattle.record.proofs.RoundTrip.{read-output, write-read, accepted-again}
+use Rattle.record.proofs.RoundTrip.{same-back, read-output, write-read, accepted-again}
 use Rattle.writing.proofs.Shortest.{is-shortest}
 use Rattle.writing.proofs.RoundTrips.{space-output, encap-output, space-written, encap-written}
 use Rattle.lane.proofs.Fine.{Tallies, is-fine}
@@ -37,25 +37,15 @@ encapsulation-given-back : EncapsulationGivenBack
 encapsulation-given-back p u x given out e = let h = encap-output p u x given out e in (h .0, h .1)
 
 record-given-back : RecordGivenBack
-record-given-back r out w e =
-    read-output (r .station) (r .apid) (r .units) (r .packets) (r .missing) (r .broken)
-    (record { station-16 = w .0; apid-16 = w .1; units-32 = w .2; packets-32 = w .3; missing-32 = w .4; broken-32 = w .5 }) out e
+record-given-back r out w e = read-output r w out e
 
 header-is-shortest : HeaderIsShortest
 header-is-shortest p u x room given small e = is-shortest p u x room given e small
 
 -- the record at the front of a file
-front-possible : (r : Possible) (rest : List ℕ) → possibleAt (octetsOf (r .credit) ++ rest) ≡ true
+front-possible : (r : Possible) (rest : List ℕ) → possibleAt (recordOctets (r .credit) ++ rest) ≡ true
 unfolding possibleAt recordOctets
-front-possible r rest =
-    let w = r .wide in
-    let a = read-two (r .credit .apid) (w .1) in
-    let u = read-four (r .credit .units) (w .2) in
-    let p = read-four (r .credit .packets) (w .3) in
-    let m = read-four (r .credit .missing) (w .4) in
-    let b = read-four (r .credit .broken) (w .5) in
-    let h = r .possible in
-    cc
+front-possible r rest = ap possible (same-back (r .credit) (r .wide)) ∙ r .possible
 
 file-length : (rs : List Possible) → length (fileOf rs) ≡ length rs * 20
 unfolding fileOf recordOctets
@@ -83,9 +73,7 @@ encapsulation-written-again s small e v = encap-written s small e v
 record-written-again : RecordWrittenAgain
 record-written-again r s small e =
     let h = read-fields s r (sym e) in
-    let w = write-read s small (h .0) in
-    let again = accepted-again s small (h .0) in
-    (cc, λ room fits. let z = again room fits in cc)
+    (ap recordOctets (h .1) ∙ write-read s small (h .0), λ room fits. ap (λ (q : Record). writingRefusal q room) (h .1) ∙ accepted-again s small (h .0) room fits)
 
 -- ---- the rule
 pub replies-are-the-rules : RepliesAreTheRules
@@ -99,16 +87,16 @@ lanes-are-the-rules start calls i =
     (ap (λ (v : Slot). v .lane) e, ap (λ (v : Slot). v .group) e)
 
 -- ---- the credit
-units-written : (r : Record) (out : List ℕ) → r .units < 4294967296 → unitsIn (put out 0 (octetsOf r)) ≡ r .units
+units-written : (r : Record) (out : List ℕ) → r .units < 4294967296 → recordIn (put out 0 (recordOctets r)) .units ≡ r .units
 unfolding put recordOctets
 units-written r out h = read-four (r .units) h
 
 -- a closing that isn't refused writes the units of its past, of which there are no more than packets
 credited-units : (past : Past) (i : ℕ) (out credited : List ℕ) → Tallies (laneFrom past) → ruled past (closes i out) ≡ some (toClosing 0 credited)
-    → (unitsIn credited ≡ units (packetsOf past)) × (units (packetsOf past) ≤ length (packetsOf past))
+    → (recordIn credited .units ≡ units (packetsOf past)) × (units (packetsOf past) ≤ length (packetsOf past))
 credited-units shut i out credited t e = absurd (let z : _≡_ {A = ℕ} 0 1 = cc in omega arith)
 credited-units (since s ps) i out credited t e =
-    let z : put out 0 (octetsOf (credit s ps)) ≡ credited = cc in
+    let z : put out 0 (recordOctets (credit s ps)) ≡ credited = cc in
     (rw (← z) (units-written (credit s ps) out (omega arith)), omega arith)
 
 credit-needs-units : (n : ℕ) → CreditNeeds n

@@ -8,15 +8,15 @@ use mathlib.Core.List.{List, [], _∷_}
 use lib.Dec.{eqb, ltb}
 use lib.ListN.{length, drop}
 use Rattle.octets.specs.Order.{Test, first}
-use Rattle.octets.specs.Output.{answer, unlessRefused, put, writerTells, outputAfter}
-use Rattle.octets.proofs.Order.{either}
+use Rattle.octets.specs.Output.{answer, leading, unlessRefused, put, writerTells, outputAfter}
+use Rattle.octets.proofs.Order.{either, leads-first}
 use Rattle.packet.specs.declared.Packet.{Packet}
 use Rattle.packet.specs.declared.Packet.the-variants as packet
 use Rattle.packet.specs.Space as space
 use Rattle.packet.specs.Encapsulation as encap
-use Rattle.packet.specs.Reading.{isSpace, refusal, fields, reading}
+use Rattle.reading.specs.Reading.{isSpace, refusal, fields, reading}
 use Rattle.packet.specs.Told as packetTold
-use Rattle.packet.proofs.Answers as packetAnswers
+use Rattle.reading.proofs.Answers as readingAnswers
 use Rattle.writing.specs.declared.Written.{Written}
 use Rattle.writing.specs.declared.Written.the-variants as written
 use Rattle.writing.specs.Space.{spaceOctets, spaceRefusal}
@@ -29,58 +29,64 @@ use Rattle.record.specs.declared.RecordRead.{RecordRead}
 use Rattle.record.specs.declared.RecordRead.the-variants as recordRead
 use Rattle.record.specs.declared.RecordFile.{RecordFile}
 use Rattle.record.specs.declared.RecordFile.the-variants as recordFile
-use Rattle.record.specs.Record.{recordSize, stationIn, apidIn, unitsIn, packetsIn, missingIn, brokenIn, fieldsIn}
-use Rattle.record.specs.Reading.{recordRefusal, recordReading, recordsIn, impossibleIn, fileReading, fileRefusal}
-use Rattle.record.specs.Writing.{writingRefusal}
-use Rattle.record.specs.Told.{toldRead, toldWritten, toldFile, octetsOf}
+use Rattle.record.specs.Record.{recordSize, recordIn, recordOctets, fields as recordFields, possible}
+use Rattle.record.specs.Reading.{possibleAt, recordTests, recordRefusal, recordReading, recordsIn, impossibleIn, fileTests, fileReading, fileRefusal}
+use Rattle.record.specs.Writing.{writingTests, recordTold, writingRefusal}
+use Rattle.record.specs.Told.{toldRead, toldWritten, toldFile}
 use Rattle.record.proofs.Answers.{one-read, one-written, one-file}
 use Rattle.branmuslin.specs.Lent.{packetNumbers, recordsAfter, indexAfter}
 use Rattle.demands.specs.Entry.{Entry, Demand1}
-use Rattle.demands.specs.Entries.{SpacePacket, EncapsulationPacket, RecordGiven, leading, fileOrder}
+use Rattle.demands.specs.Entries.{SpacePacket, EncapsulationPacket, RecordGiven}
 use Rattle.demands.specs.Entries.{readPacket, packetAt, writeSpace, writeEncapsulation, readRecord, readRecordFile, writeRecord}
 use Rattle.demands.specs.Exported.{readPacketC, writeSpaceC, writeEncapsulationC, readRecordC, readRecordFileC, writeRecordC}
 use Rattle.demands.proofs.Refusals.{demand, leads, left-alone}
 
 -- ---- an answer that tells its number and values
-module _ {A G : Type 0} (told : A → List ℕ) (tests : G → List (Test ℕ)) (number : G → ℕ) (ordered : (g : G) → number g ≡ first 0 (tests g)) where
+module _ {A G : Type 0} (told : A → List ℕ) (tests : G → List (Test ℕ)) (tells : G → List ℕ) where
+  -- each input has an answer, and what is told fixes it
+  abbrev Answers : Type 0
+  Answers = (g : G) → (a : A) × (told a ≡ tells g)
+
+  abbrev Fixes : Type 0
+  Fixes = (g : G) (a b : A) → told a ≡ tells g → told b ≡ tells g → a ≡ b
+
   -- a reader may change nothing
-  abbrev Reader : (G → List ℕ) → Entry
-  Reader values = record {
+  abbrev Reader : Entry
+  Reader = record {
     Given = G;
     Answer = A;
     Lent = Unit {0};
     before = λ g. tt;
     number = λ a. leading (told a);
     tests = tests;
-    Permits = λ g a l. told a ≡ answer (number g) (values g);
+    Permits = λ g a l. told a ≡ tells g;
   }
 
-  reads : (values : G → List ℕ) → ((g : G) → (a : A) × (told a ≡ answer (number g) (values g)))
-      → ((g : G) (a b : A) → told a ≡ answer (number g) (values g) → told b ≡ answer (number g) (values g) → a ≡ b) → Demand1 (Reader values)
-  reads values tells fixes = demand (Reader values) number ordered
-      (λ g. (tells g .0, (tt, tells g .1)))
-      (λ g a l e. (leads (number g) (values g) (told a) e, λ r. refl))
+  reads : ((g : G) → leading (tells g) ≡ first 0 (tests g)) → Answers → Fixes → Demand1 Reader
+  reads ordered answers fixes = demand Reader (λ g. leading (tells g)) ordered
+      (λ g. (answers g .0, (tt, answers g .1)))
+      (λ g a l e. (ap leading e, λ r. refl))
       (λ g a b l m e f. (fixes g a b e f, refl))
 
-  -- a writer tells the octets of its text, and leaves it at the front of the output
-  abbrev Writer : (G → List ℕ) → (G → List ℕ) → Entry
-  Writer text out = record {
-    Given = G;
-    Answer = A;
-    Lent = List ℕ;
-    before = out;
-    number = λ a. leading (told a);
-    tests = tests;
-    Permits = λ g a l. (told a ≡ writerTells (number g) (text g)) × (l ≡ outputAfter (number g) (text g) (out g));
-  }
+  -- a writer leaves its text at the front of the output
+  module _ (number : G → ℕ) (text out : G → List ℕ) where
+    abbrev Writer : Entry
+    Writer = record {
+      Given = G;
+      Answer = A;
+      Lent = List ℕ;
+      before = out;
+      number = λ a. leading (told a);
+      tests = tests;
+      Permits = λ g a l. (told a ≡ tells g) × (l ≡ outputAfter (number g) (text g) (out g));
+    }
 
-  writes : (text out : G → List ℕ) → ((n octets : ℕ) → (a : A) × (told a ≡ answer n (octets ∷ [])))
-      → ((t : List ℕ) (a b : A) → told a ≡ t → told b ≡ t → a ≡ b) → Demand1 (Writer text out)
-  unfolding writerTells outputAfter
-  writes text out tells fixes = demand (Writer text out) number ordered
-      (λ g. let t = tells (number g) (length (text g)) in (t .0, (outputAfter (number g) (text g) (out g), (t .1, refl))))
-      (λ g a l p. (leads (number g) (length (text g) ∷ []) (told a) (p .0), left-alone (number g) _ (out g) l (p .1)))
-      (λ g a b l m p q. (fixes _ a b (p .0) (q .0), p .1 ∙ sym (q .1)))
+    writes : ((g : G) → leading (tells g) ≡ number g) → ((g : G) → number g ≡ first 0 (tests g)) → Answers → Fixes → Demand1 Writer
+    unfolding outputAfter
+    writes begins ordered answers fixes = demand Writer number ordered
+        (λ g. (answers g .0, (outputAfter (number g) (text g) (out g), (answers g .1, refl))))
+        (λ g a l p. (ap leading (p .0) ∙ begins g, left-alone (number g) _ (out g) l (p .1)))
+        (λ g a b l m p q. (fixes g a b (p .0) (q .0), p .1 ∙ sym (q .1)))
 
 -- ---- a function that returns the number, and leaves the new value of one or of two things that were lent
 module _ {G : Type 0} (tests : G → List (Test ℕ)) (number : G → ℕ) (ordered : (g : G) → number g ≡ first 0 (tests g)) {L : Type 0} (new old : G → L) where
@@ -129,26 +135,32 @@ read-answer s =
     (λ k. (packet.Encapsulation (encap.protocol s) (encap.user s) (encap.extension s) (encap.encapHeader s) (encap.encapSize s - encap.encapHeader s), simp (t, k) refl)))
     (λ f. (packet.Refused (refusal s), simp f refl))
 
-pub reads-packet : Demand1 readPacket
+read-ordered : (s : List ℕ) → leading (reading s) ≡ first 0 (readPacket .tests s)
 unfolding refusal reading
-reads-packet = reads packetTold.told (readPacket .tests) refusal (λ s. refl) fields read-answer (λ s a b. packetAnswers.one-answer a b s)
+read-ordered s = leads (refusal s) (fields s) _ refl
+
+pub reads-packet : Demand1 readPacket
+unfolding reading
+reads-packet = reads packetTold.told (readPacket .tests) reading read-ordered read-answer (λ s a b. readingAnswers.one-answer a b s)
 
 pub reads-at : Demand1 packetAt
-unfolding refusal reading
+unfolding reading
 reads-at =
-    reads packetTold.told (packetAt .tests) (λ g. refusal (drop (g .at) (g .octets))) (λ g. refl) (λ g. fields (drop (g .at) (g .octets)))
-    (λ g. read-answer (drop (g .at) (g .octets))) (λ g a b. packetAnswers.one-answer a b (drop (g .at) (g .octets)))
+    reads packetTold.told (packetAt .tests) (λ g. reading (drop (g .at) (g .octets)))
+    (λ g. read-ordered (drop (g .at) (g .octets))) (λ g. read-answer (drop (g .at) (g .octets))) (λ g a b. readingAnswers.one-answer a b (drop (g .at) (g .octets)))
 
 pub reads-packet-C : Demand1 readPacketC
 unfolding refusal
 reads-packet-C = returns (readPacketC .tests) (λ g. refusal (g .octets)) (λ g. refl) (λ g. packetNumbers (g .octets)) (λ g. g .numbers)
 
 -- ---- writing a packet
-write-answer : (n octets : ℕ) → (a : Written) × (writingTold.told a ≡ answer n (octets ∷ []))
-write-answer n octets = either (eqb n 0) (λ t. (written.Octets octets, simp t refl)) (λ f. (written.Refused n, simp f refl))
+begins : (n : ℕ) (text : List ℕ) → leading (writerTells n text) ≡ n
+unfolding writerTells
+begins n text = leads n (length text ∷ []) _ refl
 
-one-written-packet : (t : List ℕ) (a b : Written) → writingTold.told a ≡ t → writingTold.told b ≡ t → a ≡ b
-one-written-packet t a b = writingAnswers.one-answer a b t
+write-answer : (n : ℕ) (text : List ℕ) → (a : Written) × (writingTold.told a ≡ writerTells n text)
+unfolding writerTells
+write-answer n text = either (eqb n 0) (λ t. (written.Octets (length text), simp t refl)) (λ f. (written.Refused n, simp f refl))
 
 abbrev spaceNumber : SpacePacket → ℕ
 spaceNumber g = spaceRefusal (g .kind) (g .secondary) (g .apid) (g .flags) (g .count) (length (g .field)) (length (g .out))
@@ -161,7 +173,9 @@ unfolding spaceRefusal
 space-ordered g = refl
 
 pub writes-space : Demand1 writeSpace
-writes-space = writes writingTold.told (writeSpace .tests) spaceNumber space-ordered spaceText (λ g. g .out) write-answer one-written-packet
+writes-space =
+    writes writingTold.told (writeSpace .tests) (λ g. writerTells (spaceNumber g) (spaceText g)) spaceNumber spaceText (λ g. g .out)
+    (λ g. begins (spaceNumber g) (spaceText g)) space-ordered (λ g. write-answer (spaceNumber g) (spaceText g)) (λ g a b. writingAnswers.one-answer a b _)
 
 pub writes-space-C : Demand1 writeSpaceC
 unfolding outputAfter
@@ -180,7 +194,9 @@ unfolding encapRefusal
 encap-ordered g = refl
 
 pub writes-encapsulation : Demand1 writeEncapsulation
-writes-encapsulation = writes writingTold.told (writeEncapsulation .tests) encapNumber encap-ordered encapText (λ g. g .out) write-answer one-written-packet
+writes-encapsulation =
+    writes writingTold.told (writeEncapsulation .tests) (λ g. writerTells (encapNumber g) (encapText g)) encapNumber encapText (λ g. g .out)
+    (λ g. begins (encapNumber g) (encapText g)) encap-ordered (λ g. write-answer (encapNumber g) (encapText g)) (λ g a b. writingAnswers.one-answer a b _)
 
 pub writes-encapsulation-C : Demand1 writeEncapsulationC
 unfolding outputAfter
@@ -188,48 +204,49 @@ writes-encapsulation-C =
     returns-2 (writeEncapsulationC .tests) (λ g. encapNumber (g .packet)) (λ g. encap-ordered (g .packet))
     (λ g. put (g .packet .out) 0 (encapText (g .packet))) (λ g. g .packet .out) (λ g. length (encapText (g .packet))) (λ g. g .written)
 
--- ---- records
-record-answer : (s : List ℕ) → (a : RecordRead) × (toldRead a ≡ answer (recordRefusal s) (fieldsIn s))
+-- ---- records: the number leads what is told, and so what the first test tells
+record-ordered : (s : List ℕ) → recordRefusal s ≡ first 0 (readRecord .tests s)
+unfolding recordReading
+record-ordered s = leads-first (0 ∷ recordFields (recordIn s)) (recordTests s)
+
+record-answer : (s : List ℕ) → (a : RecordRead) × (toldRead a ≡ recordReading s)
+unfolding recordReading
 record-answer s =
-    either (eqb (recordRefusal s) 0)
-    (λ t. (
-      recordRead.Fields
-          (record { station = stationIn s; apid = apidIn s; units = unitsIn s; packets = packetsIn s; missing = missingIn s; broken = brokenIn s }),
-      simp t refl,
-    ))
-    (λ f. (recordRead.Refused (recordRefusal s), simp f refl))
+    either (not (eqb (length s) recordSize)) (λ t. (recordRead.Refused 26, simp t refl))
+    (λ f. either (not (possibleAt s)) (λ t. (recordRead.Refused 25, simp (f, t) refl)) (λ n. (recordRead.Fields (recordIn s), simp (f, n) refl)))
 
 pub reads-record : Demand1 readRecord
-unfolding recordRefusal recordReading
-reads-record = reads toldRead (readRecord .tests) recordRefusal (λ s. refl) fieldsIn record-answer (λ s. one-read _)
+reads-record = reads toldRead (readRecord .tests) recordReading record-ordered record-answer (λ s. one-read _)
 
 pub reads-record-C : Demand1 readRecordC
-unfolding recordRefusal
-reads-record-C = returns (readRecordC .tests) (λ g. recordRefusal (g .octets)) (λ g. refl) (λ g. fieldsIn (g .octets)) (λ g. g .numbers)
-
-record-written : (n octets : ℕ) → (a : RecordWritten) × (toldWritten a ≡ answer n (octets ∷ []))
-record-written n octets = either (eqb n 0) (λ t. (recordWritten.Octets octets, simp t refl)) (λ f. (recordWritten.Refused n, simp f refl))
+reads-record-C = returns (readRecordC .tests) (λ g. recordRefusal (g .octets)) (λ g. record-ordered (g .octets)) (λ g. recordFields (recordIn (g .octets))) (λ g. g .numbers)
 
 abbrev creditNumber : RecordGiven → ℕ
-creditNumber g = writingRefusal (g .credit .apid) (g .credit .units) (g .credit .packets) (g .credit .missing) (g .credit .broken) (length (g .out))
+creditNumber g = writingRefusal (g .credit) (length (g .out))
 
 credit-ordered : (g : RecordGiven) → creditNumber g ≡ first 0 (writeRecord .tests g)
-unfolding writingRefusal
-credit-ordered g = refl
+unfolding recordTold
+credit-ordered g = leads-first (0 ∷ recordSize ∷ []) (writingTests (g .credit) (length (g .out)))
+
+credit-answer : (g : RecordGiven) → (a : RecordWritten) × (toldWritten a ≡ recordTold (g .credit) (length (g .out)))
+unfolding recordTold
+credit-answer g =
+    either (ltb (length (g .out)) recordSize) (λ t. (recordWritten.Refused 9, simp t refl))
+    (λ f. either (not (possible (g .credit))) (λ t. (recordWritten.Refused 25, simp (f, t) refl)) (λ n. (recordWritten.Octets recordSize, simp (f, n) refl)))
 
 pub writes-record : Demand1 writeRecord
-writes-record = writes toldWritten (writeRecord .tests) creditNumber credit-ordered (λ g. octetsOf (g .credit)) (λ g. g .out) record-written one-written
+writes-record =
+    writes toldWritten (writeRecord .tests) (λ g. recordTold (g .credit) (length (g .out))) creditNumber (λ g. recordOctets (g .credit)) (λ g. g .out)
+    (λ g. refl) credit-ordered credit-answer (λ g. one-written _)
 
 pub writes-record-C : Demand1 writeRecordC
 unfolding outputAfter
-writes-record-C = returns (writeRecordC .tests) creditNumber credit-ordered (λ g. put (g .out) 0 (octetsOf (g .credit))) (λ g. g .out)
+writes-record-C = returns (writeRecordC .tests) creditNumber credit-ordered (λ g. put (g .out) 0 (recordOctets (g .credit))) (λ g. g .out)
 
--- ---- a record file: 25 comes with its index
-file-ordered : (s : List ℕ) → fileRefusal s ≡ first 0 (fileOrder s)
+-- a file: 25 comes with its index
+file-ordered : (s : List ℕ) → fileRefusal s ≡ first 0 (readRecordFile .tests s)
 unfolding fileReading
-file-ordered s =
-    either (not (eqb (length s % recordSize) 0)) (λ t. simp t refl)
-    (λ f. either (ltb (impossibleIn s) (recordsIn s)) (λ t. simp (f, t) refl) (λ n. simp (f, n) refl))
+file-ordered s = leads-first (0 ∷ recordsIn s ∷ []) (fileTests s)
 
 file-answer : (s : List ℕ) → (a : RecordFile) × (toldFile a ≡ fileReading s)
 unfolding fileReading
@@ -238,10 +255,7 @@ file-answer s =
     (λ f. either (ltb (impossibleIn s) (recordsIn s)) (λ t. (recordFile.Impossible (impossibleIn s), simp (f, t) refl)) (λ n. (recordFile.Records (recordsIn s), simp (f, n) refl)))
 
 pub reads-record-file : Demand1 readRecordFile
-reads-record-file = demand readRecordFile fileRefusal file-ordered
-    (λ s. (file-answer s .0, (tt, file-answer s .1)))
-    (λ s a l e. (ap leading e, λ r. refl))
-    (λ s a b l m e f. (one-file _ a b e f, refl))
+reads-record-file = reads toldFile (readRecordFile .tests) fileReading file-ordered file-answer (λ s. one-file _)
 
 pub reads-record-file-C : Demand1 readRecordFileC
 reads-record-file-C = demand readRecordFileC (λ g. fileRefusal (g .octets)) (λ g. file-ordered (g .octets))

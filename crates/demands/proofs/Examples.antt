@@ -11,17 +11,17 @@ use lib.Dec.{eqb}
 use Rattle.octets.specs.Octets.{one}
 use Rattle.octets.specs.Output.{put, outputAfter}
 use Rattle.octets.proofs.Order.{both}
-use Rattle.packet.specs.Reading.{header, size, readingTests, refusal, content}
+use Rattle.reading.specs.Reading.{header, size, readingTests, refusal, content}
 use Rattle.writing.specs.Space.{spaceOctets}
 use Rattle.record.specs.Record.{possible, recordOctets}
-use Rattle.pool.specs.Blocks.{poolOctets, blocksFor, find, granted, freedMark}
-use Rattle.pool.specs.Matching.{found, holds, eachHolds, count, sum, matching}
-use Rattle.pool.specs.Octets.{place, stored, gathered}
+use Rattle.marks.specs.Blocks.{blocksFor, find, granted, freedMark}
+use Rattle.marks.specs.Matching.{found, holds, eachHolds, count, sum, matching}
+use Rattle.pool.specs.Octets.{poolOctets, place, stored, gathered}
 use Rattle.lane.specs.Lane.{held, need, illegal, talliesPossible, fine}
-use Rattle.lane.specs.Packets.{fault, userData}
-use Rattle.lane.specs.Grouping.{repeats, missingBefore, breaks, givesUp, goesOn}
-use Rattle.lane.specs.Plans.{holdPlan, unitPlan, groupingPlan, acceptedPlan, packetPlan}
-use Rattle.lane.specs.Steps.{laneAfter}
+use Rattle.grouping.specs.Packets.{fault, userData}
+use Rattle.grouping.specs.Grouping.{repeats, missingBefore, breaks, givesUp, goesOn}
+use Rattle.grouping.specs.Plans.{holdPlan, unitPlan, groupingPlan, acceptedPlan, packetPlan}
+use Rattle.grouping.specs.Steps.{laneAfter}
 use Rattle.intake.specs.declared.State.{State}
 use Rattle.intake.specs.State.{freshState, laneAt, total, others, every, sound, unsound}
 use Rattle.intake.specs.Calls.{openingRefusal, closingRefusal, settle, packetStep}

@@ -13,13 +13,13 @@ use lib.ListN.{length}
 use Rattle.octets.specs.Octets.{one}
 use Rattle.octets.specs.Output.{unlessRefused, put, outputAfter}
 use Rattle.octets.proofs.Order.{either}
-use Rattle.record.specs.Told.{octetsOf}
+use Rattle.record.specs.Record.{recordOctets}
 use Rattle.lane.specs.declared.Settings.{Settings}
-use Rattle.lane.specs.Lane.{closed as closedLane}
+use Rattle.lane.specs.Lane.{closed as closedLane, creditOf}
 use Rattle.lane.proofs.Fine.{is-fine}
 use Rattle.intake.specs.State.{laneAt, others}
 use Rattle.intake.specs.Calls.{openingRefusal, closingRefusal}
-use Rattle.intake.specs.After.{openedWith, creditOf, opening, closing, closingOut}
+use Rattle.intake.specs.After.{openedWith, opening, closing, closingOut}
 use Rattle.intake.specs.declared.Answer.the-variants.{Refused, Repeat, Stray, Held, Unit}
 use Rattle.demands.specs.Runs.{Intake, Start, begun, Call, opens, takes, closes, Reply, toOpening, toPacket, toClosing, reply, after, run, laneOf, names}
 use Rattle.demands.specs.Rule.{Accepted, present, repeats, missing, group, unit, givesUp, answerWith, answerTo, endings, units, missingInAll, broken, lastCount}
@@ -46,14 +46,14 @@ module _ (past : Past) (v : Slot) (same : v ≡ slotFrom past) (i refusal : ℕ)
       done (since s ps) e = absurd (true≢false e)
 
   closing-follows : (out : List ℕ) → (refusal ≡ 0 → v .lane .opened ≡ true)
-      → Follows past (closes i out) (unlessRefused refusal (without closedLane) v) (toClosing refusal (outputAfter refusal (octetsOf (creditOf (v .lane))) out))
+      → Follows past (closes i out) (unlessRefused refusal (without closedLane) v) (toClosing refusal (outputAfter refusal (recordOctets (creditOf (v .lane))) out))
   unfolding outputAfter group
   closing-follows out found =
       either (eqb refusal 0)
       (λ e. let z : refusal ≡ 0 = eqb-true refusal 0 e in rw (z, same) (done past (rw same at (found z))))
       (λ e. simp e (same, inl refl))
     where
-      done : (past : Past) → laneFrom past .opened ≡ true → Follows past (closes i out) (without closedLane) (toClosing 0 (put out 0 (octetsOf (creditOf (laneFrom past)))))
+      done : (past : Past) → laneFrom past .opened ≡ true → Follows past (closes i out) (without closedLane) (toClosing 0 (put out 0 (recordOctets (creditOf (laneFrom past)))))
       done shut e = absurd (true≢false (sym e))
       done (since s ps) e = (refl, inr refl)
 

@@ -8,20 +8,19 @@ use native.Mathlib.Omega.{arith}
 use lib.ListN.{length, getD, set, length-append, length-map}
 use lib.Seq.{getD-set-same, getD-set-other}
 use Rattle.octets.proofs.Order.{either}
-use Rattle.pool.specs.Blocks.{blocksFor}
+use Rattle.marks.specs.Blocks.{blocksFor}
 use Rattle.pool.specs.Octets.{stored, gathered}
 use Rattle.pool.proofs.InBlocks.{stored-length}
-use Rattle.pool.proofs.Apart.{Has, stored-for-another, stored-gathered, gathered-length}
-use Rattle.pool.proofs.Leaving.{freed-gathered, granted-gathered, granted-gathered-own}
-use Rattle.pool.proofs.Matched.{matching-has}
+use Rattle.pool.proofs.Apart.{Has, stored-for-another, stored-gathered, gathered-length, freed-gathered, granted-gathered, granted-gathered-own, matching-has}
 use Rattle.lane.specs.declared.Settings.{Settings}
 use Rattle.lane.specs.declared.Lane.{Lane}
-use Rattle.lane.specs.declared.Added.{Added}
-use Rattle.lane.specs.declared.Step.{Step}
-use Rattle.lane.specs.declared.Step.the-variants.{Refuse, Repeat, Stray, Hold, Unit}
+use Rattle.lane.proofs.Fine.{held-most}
+use Rattle.grouping.specs.declared.Added.{Added}
+use Rattle.grouping.specs.declared.Step.{Step}
+use Rattle.grouping.specs.declared.Step.the-variants.{Refuse, Repeat, Stray, Hold, Unit}
 use Rattle.lane.specs.Lane.{closed, held}
-use Rattle.lane.specs.Steps.{laneAfter}
-use Rattle.lane.proofs.Planned.{of-either, held-most}
+use Rattle.grouping.specs.Steps.{laneAfter}
+use Rattle.grouping.proofs.Planned.{of-either}
 use Rattle.intake.specs.declared.State.{State}
 use Rattle.intake.specs.State.{laneAt}
 use Rattle.intake.specs.Calls.{openingRefusal, closingRefusal, packetStep}

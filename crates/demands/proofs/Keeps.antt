@@ -1,5 +1,5 @@
 -- Every public function's code meets its contract: the crates' own theorems, under one statement.
-use Rattle.packet.proofs.read_packet.Met as readPacket
+use Rattle.reading.proofs.read_packet.Met as readPacket
 use Rattle.walk.proofs.packet_at.Met as packetAt
 use Rattle.writing.proofs.write_space.Met as writeSpace
 use Rattle.writing.proofs.write_encapsulation.Met as writeEncapsulation
@@ -31,19 +31,22 @@ use Rattle.numbers.proofs.larger.Met as largerOf
 use Rattle.packet.proofs.number_of.Met as numberOf
 use Rattle.packet.proofs.header_of.Met as headerOf
 use Rattle.packet.proofs.size_of.Met as sizeOf
-use Rattle.packet.proofs.data_of.Met as dataOf
+use Rattle.reading.proofs.data_of.Met as dataOf
 use Rattle.walk.proofs.walk.Met as walkAll
 use Rattle.record.proofs.is_possible.Met as isPossible
-use Rattle.pool.proofs.blocks_for.Met as blocksFor
-use Rattle.pool.proofs.grant_blocks.Met as grantBlocks
-use Rattle.pool.proofs.free_blocks.Met as freeBlocks
+use Rattle.record.proofs.front_record.Met as frontRecord
+use Rattle.marks.proofs.blocks_for.Met as blocksFor
+use Rattle.marks.proofs.find_from.Met as findFrom
+use Rattle.marks.proofs.grant_blocks.Met as grantBlocks
+use Rattle.marks.proofs.free_blocks.Met as freeBlocks
+use Rattle.marks.proofs.marks_match.Met as marksMatch
 use Rattle.pool.proofs.store_octets.Met as storeOctets
 use Rattle.pool.proofs.gather_octets.Met as gatherOctets
-use Rattle.pool.proofs.marks_match.Met as marksMatch
+use Rattle.lane.proofs.need_with.Met as needWith
 use Rattle.lane.proofs.need_of.Met as needOf
 use Rattle.lane.proofs.is_illegal.Met as isIllegal
 use Rattle.lane.proofs.is_fine.Met as isFine
-use Rattle.lane.proofs.plan_packet.Met as planPacket
+use Rattle.grouping.proofs.plan_packet.Met as planPacket
 use Rattle.intake.proofs.fresh_start.Met as freshStart
 use Rattle.intake.proofs.is_sound.Met as isSound
 use Rattle.lanes.proofs.branmuslin_fresh_start.Met as branmuslinFreshStart
@@ -102,12 +105,15 @@ keeps public.size-of M = sizeOf.met
 keeps public.data-of M = dataOf.met
 keeps public.walk M = walkAll.met
 keeps public.is-possible M = isPossible.met
+keeps public.front-record M = frontRecord.met
 keeps public.blocks-for M = blocksFor.met
+keeps public.find-from M = findFrom.met
 keeps public.grant-blocks M = grantBlocks.met
 keeps public.free-blocks M = freeBlocks.met
+keeps public.marks-match M = marksMatch.met
 keeps public.store-octets M = storeOctets.met
 keeps public.gather-octets M = gatherOctets.met
-keeps public.marks-match M = marksMatch.met
+keeps public.need-with M = needWith.met
 keeps public.need-of M = needOf.met
 keeps public.is-illegal M = isIllegal.met
 keeps public.is-fine M = isFine.met

@@ -5,8 +5,9 @@ use mathlib.Core.Path.{_≡_, refl, sym, ap, _∙_}
 use mathlib.Core.List.{List}
 use lib.ListN.{length}
 use Rattle.octets.specs.Order.{first}
-use Rattle.lane.specs.declared.Step.{Step}
-use Rattle.lane.specs.declared.Step.the-variants.{Refuse, Repeat, Stray, Hold, Unit}
+use Rattle.octets.specs.Output.{leading}
+use Rattle.grouping.specs.declared.Step.{Step}
+use Rattle.grouping.specs.declared.Step.the-variants.{Refuse, Repeat, Stray, Hold, Unit}
 use Rattle.intake.specs.declared.State.{State}
 use Rattle.intake.specs.declared.Answer.{Answer}
 use Rattle.intake.specs.declared.Answer.the-variants as answer
@@ -18,7 +19,7 @@ use Rattle.intake.proofs.Given.{answer-told}
 use Rattle.lanes.specs.Numbers.{telling as inNumbers, numbered}
 use Rattle.demands.specs.Order.{refusalOf}
 use Rattle.demands.specs.Entry.{Demand1}
-use Rattle.demands.specs.Entries.{Taking, leading, openLane, takePacket, closeLane}
+use Rattle.demands.specs.Entries.{Taking, openLane, takePacket, closeLane}
 use Rattle.demands.specs.Exported.{InNumbers, withoutState, takePacketC}
 use Rattle.demands.proofs.Laws.{packet-order, refused-leaves, refused-opening-leaves, refused-closing-leaves}
 use Rattle.demands.proofs.Refusals.{demand}

@@ -7,12 +7,11 @@ use native.Mathlib.Omega.{arith}
 use lib.ListN.{length, getD, set, List·getD-map}
 use lib.Seq.{set-getD}
 use Rattle.octets.proofs.Order.{either, both}
-use Rattle.pool.specs.Blocks.{blocksFor}
-use Rattle.pool.specs.Matching.{sum}
+use Rattle.marks.specs.Blocks.{blocksFor}
+use Rattle.marks.specs.Matching.{sum}
 use Rattle.lane.specs.declared.Lane.{Lane}
 use Rattle.lane.specs.Lane.{closed, held, need, fine}
-use Rattle.lane.proofs.Fine.{is-fine}
-use Rattle.lane.proofs.Planned.{none-held}
+use Rattle.lane.proofs.Fine.{is-fine, none-held}
 use Rattle.intake.specs.State.{total, others, every}
 
 -- ---- every lane passes a test

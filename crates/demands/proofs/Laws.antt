@@ -15,18 +15,18 @@ use Rattle.octets.proofs.Order.{either}
 use Rattle.packet.specs.Space.{flags}
 use Rattle.packet.specs.Space as space
 use Rattle.record.specs.Record.{recordSize}
-use Rattle.pool.specs.Blocks.{free, mark, find}
-use Rattle.pool.specs.Matching.{count}
-use Rattle.pool.proofs.Finding.{by-case, never-both}
+use Rattle.marks.specs.Blocks.{free, mark, find}
+use Rattle.marks.specs.Matching.{count}
+use Rattle.marks.proofs.Finding.{by-case, never-both}
 use Rattle.lane.specs.declared.Settings.{Settings}
 use Rattle.lane.specs.declared.Lane.{Lane}
-use Rattle.lane.specs.declared.Added.{Added}
-use Rattle.lane.specs.declared.Step.the-variants.{Refuse, Repeat, Stray, Hold, Unit}
+use Rattle.grouping.specs.declared.Added.{Added}
+use Rattle.grouping.specs.declared.Step.the-variants.{Refuse, Repeat, Stray, Hold, Unit}
 use Rattle.lane.specs.Lane.{held, illegal, talliesPossible}
-use Rattle.lane.specs.Grouping.{missingBefore, goesOn}
-use Rattle.lane.specs.Steps.{laneAfter}
-use Rattle.lane.proofs.Fine.{is-fine}
-use Rattle.lane.proofs.Planned.{of-either, held-most}
+use Rattle.grouping.specs.Grouping.{missingBefore, goesOn}
+use Rattle.grouping.specs.Steps.{laneAfter}
+use Rattle.lane.proofs.Fine.{is-fine, held-most}
+use Rattle.grouping.proofs.Planned.{of-either}
 use Rattle.intake.specs.declared.State.{State}
 use Rattle.intake.specs.State.{freshState, laneAt, total, sound, unsound}
 use Rattle.intake.specs.Calls.{openingRefusal, closingRefusal, packetStep}

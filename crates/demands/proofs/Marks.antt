@@ -10,18 +10,17 @@ use borrow.Author.Tests.{eq-eqb}
 use lib.ListN.{length, getD, set, length-set, length-map}
 use lib.Seq.{getD-set-same, set-getD, set-set}
 use Rattle.octets.proofs.Order.{either}
-use Rattle.pool.specs.Blocks.{free, mark, blocksFor, find, granted}
+use Rattle.marks.specs.Blocks.{free, mark, blocksFor, find, granted}
 use Rattle.octets.specs.Octets.{one}
-use Rattle.pool.specs.Matching.{count, sum, matching}
-use Rattle.pool.proofs.Leaving.{freed-length, granted-length}
-use Rattle.pool.proofs.Counts.{isOf, freed-is-free}
-use Rattle.pool.proofs.Matched.{Matched, matched, sum-set, matching-freed, matching-granted}
+use Rattle.marks.specs.Matching.{count, sum, matching}
+use Rattle.marks.proofs.Leaving.{freed-length, granted-length}
+use Rattle.marks.proofs.Counts.{isOf, freed-is-free}
+use Rattle.marks.proofs.Matched.{Matched, matched, sum-set, matching-freed, matching-granted}
 use Rattle.lane.specs.declared.Lane.{Lane}
-use Rattle.lane.specs.declared.Step.{Step}
-use Rattle.lane.specs.declared.Step.the-variants as step
+use Rattle.grouping.specs.declared.Step.{Step}
+use Rattle.grouping.specs.declared.Step.the-variants as step
 use Rattle.lane.specs.Lane.{held, need, fine}
-use Rattle.lane.proofs.Fine.{is-fine}
-use Rattle.lane.proofs.Planned.{none-held}
+use Rattle.lane.proofs.Fine.{is-fine, none-held}
 use Rattle.intake.specs.declared.State.{State}
 use Rattle.intake.specs.State.{laneAt, others}
 use Rattle.intake.specs.After.{withLane, releasedFrom, grown, marksAfter}

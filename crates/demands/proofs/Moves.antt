@@ -11,15 +11,15 @@ use borrow.Author.Tests.{eqb-true, eqb-false, ltb-true, ltb-false}
 use lib.Dec.{ltb}
 use lib.ListN.{length, getD}
 use Rattle.octets.proofs.Order.{either}
-use Rattle.pool.specs.Blocks.{free, mark, blocksFor, freed}
-use Rattle.pool.specs.Matching.{count, isFree}
-use Rattle.pool.proofs.Finding.{by-case}
-use Rattle.pool.proofs.Leaving.{freed-other}
-use Rattle.pool.proofs.Counts.{isOf, counts-one, counts-none, freed-is-free}
-use Rattle.pool.proofs.Lowest.{lowest-given, others-keep}
+use Rattle.marks.specs.Blocks.{free, mark, blocksFor, freed}
+use Rattle.marks.specs.Matching.{count, isFree}
+use Rattle.marks.proofs.Finding.{by-case}
+use Rattle.marks.proofs.Leaving.{freed-other}
+use Rattle.marks.proofs.Counts.{isOf, counts-one, counts-none, freed-is-free}
+use Rattle.marks.proofs.Lowest.{lowest-given, others-keep}
 use Rattle.lane.specs.declared.Lane.{Lane}
-use Rattle.lane.specs.declared.Step.{Step}
-use Rattle.lane.proofs.Planned.{of-either}
+use Rattle.grouping.specs.declared.Step.{Step}
+use Rattle.grouping.proofs.Planned.{of-either}
 use Rattle.intake.specs.declared.State.{State}
 use Rattle.intake.specs.State.{laneAt}
 use Rattle.intake.specs.Calls.{openingRefusal, closingRefusal}

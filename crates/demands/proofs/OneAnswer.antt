@@ -4,7 +4,7 @@ use prog.Routine.{Routine}
 use contract.Lifetimes.{Lfts}
 use denote.Triple.Entry.{Args, Res}
 use denote.Triple.Clauses.{Ended, Lasts}
-use Rattle.packet.proofs.Answers as packetAnswers
+use Rattle.reading.proofs.Answers as readingAnswers
 use Rattle.writing.proofs.Answers as writingAnswers
 use Rattle.record.proofs.Answers.{one-read, one-written, one-file}
 use Rattle.listing.proofs.Answers as listingAnswers
@@ -38,8 +38,8 @@ by-value promises still = fixed promises (λ κs a h r q v w e f. (alike e f, st
 
 -- ---- the entries, whose promises are those of `Promised`
 of-entry : (n : Name) → OneAnswer (function (the-entry n)) (Permitted n)
-of-entry name.read-packet κs a h r q v w e f = (packetAnswers.one-answer r q _ e f, refl)
-of-entry name.packet-at κs a h r q v w e f = (packetAnswers.one-answer r q _ e f, refl)
+of-entry name.read-packet κs a h r q v w e f = (readingAnswers.one-answer r q _ e f, refl)
+of-entry name.packet-at κs a h r q v w e f = (readingAnswers.one-answer r q _ e f, refl)
 of-entry name.write-space κs a h r q v w e f =
     (writingAnswers.one-answer r q _ (e .0) (f .0), λ i. (tt, (tt, (tt, (tt, (tt, (tt, (alike (e .1) (f .1) i, v .1 .1 .1 .1 .1 .1 .1))))))))
 of-entry name.write-encapsulation κs a h r q v w e f = (writingAnswers.one-answer r q _ (e .0) (f .0), λ i. (tt, (tt, (tt, (tt, (alike (e .1) (f .1) i, v .1 .1 .1 .1 .1))))))
@@ -84,14 +84,17 @@ one-answers public.data-of =
     (λ κs a h r q v w e f. ((λ i. (alike (e .1 .0) (f .1 .0) i, alike (e .1 .1) (f .1 .1) i), alike (e .0) (f .0)), refl))
 one-answers public.walk = by-value (λ κs a h M 𝓤 H A mem run. refl) (λ κs a v w. refl)
 one-answers public.is-possible = by-value (λ κs a h M 𝓤 H A mem run. refl) (λ κs a v w. refl)
+one-answers public.front-record = by-value (λ κs a h M 𝓤 H A mem run. refl) (λ κs a v w. refl)
 one-answers public.blocks-for = by-value (λ κs a h M 𝓤 H A mem run. refl) (λ κs a v w. refl)
+one-answers public.find-from = by-value (λ κs a h M 𝓤 H A mem run. refl) (λ κs a v w. refl)
 one-answers public.grant-blocks = by-value (λ κs a h M 𝓤 H A mem run. refl) (λ κs a v w. refl)
 one-answers public.free-blocks = by-value (λ κs a h M 𝓤 H A mem run. refl) (λ κs a v w. refl)
+one-answers public.marks-match = by-value (λ κs a h M 𝓤 H A mem run. refl) (λ κs a v w. refl)
 one-answers public.store-octets = fixed (λ κs a h M 𝓤 H A mem run. refl) (λ κs a h r q v w e f. (refl, λ i. (tt, (tt, (alike e f i, v .1 .1 .1)))))
 one-answers public.gather-octets =
     fixed (λ κs a h M 𝓤 H A mem run. two 𝓤)
     (λ κs a h r q v w e f. (alike (e .0) (f .0), λ i. (tt, (tt, (tt, (tt, (alike (e .1) (f .1) i, v .1 .1 .1 .1 .1)))))))
-one-answers public.marks-match = by-value (λ κs a h M 𝓤 H A mem run. refl) (λ κs a v w. refl)
+one-answers public.need-with = by-value (λ κs a h M 𝓤 H A mem run. refl) (λ κs a v w. refl)
 one-answers public.need-of = fixed (λ κs a h M 𝓤 H A mem run. two 𝓤) (λ κs a h r q v w e f. (alike (e .0) (f .0), refl))
 one-answers public.is-illegal = by-value (λ κs a h M 𝓤 H A mem run. refl) (λ κs a v w. refl)
 one-answers public.is-fine = by-value (λ κs a h M 𝓤 H A mem run. refl) (λ κs a v w. refl)

@@ -10,19 +10,20 @@ use lib.Dec.{eqb, ltb, leb}
 use Rattle.octets.specs.Order.{Test, _gives_, first}
 use Rattle.octets.proofs.Order.{either, first-append, Numbers, numbers-append, first-unless}
 use Rattle.packet.specs.Space.{flags, count}
-use Rattle.packet.specs.Reading.{isSpace, readingTests, refusal}
-use Rattle.pool.specs.Blocks.{blocksFor}
+use Rattle.reading.specs.Reading.{isSpace, readingTests, refusal}
+use Rattle.marks.specs.Blocks.{blocksFor}
 use Rattle.lane.specs.declared.Settings.{Settings}
 use Rattle.lane.specs.declared.Lane.{Lane}
-use Rattle.lane.specs.declared.Added.{Added}
-use Rattle.lane.specs.declared.Step.the-variants.{Stray}
-use Rattle.lane.specs.declared.Plan.the-variants.{Sure}
-use Rattle.lane.specs.Packets.{laneTests, fault, userOctets}
-use Rattle.lane.specs.Grouping.{repeats, goesOn, addedFrom}
-use Rattle.lane.specs.Plans.{holdPlan, unitPlan, groupingPlan, acceptedPlan, packetPlan}
+use Rattle.grouping.specs.declared.Added.{Added}
+use Rattle.grouping.specs.declared.Step.the-variants.{Stray}
+use Rattle.grouping.specs.declared.Plan.the-variants.{Sure}
+use Rattle.lane.specs.Lane.{holding}
+use Rattle.grouping.specs.Packets.{laneTests, fault, userOctets}
+use Rattle.grouping.specs.Grouping.{repeats, goesOn, addedFrom}
+use Rattle.grouping.specs.Plans.{holdPlan, unitPlan, groupingPlan, acceptedPlan, packetPlan}
 use Rattle.lane.proofs.Fine.{is-fine}
-use Rattle.lane.proofs.Accepted.{fault-most}
-use Rattle.lane.proofs.Planned.{of-either}
+use Rattle.grouping.proofs.Accepted.{fault-most}
+use Rattle.grouping.proofs.Planned.{of-either}
 use Rattle.intake.specs.declared.State.{State}
 use Rattle.intake.specs.State.{laneAt, others, unsound}
 use Rattle.intake.specs.Calls.{settle, packetStep}
@@ -49,24 +50,24 @@ module _ (l : Lane) (o room : ℕ) where
       ∷ (ltb room u gives 20)
       ∷ [])
 
-  to-hold : (a : Added) (on : Bool) (n : ℕ) → refusalOf (settle o (holdPlan (l .settings) a on n)) ≡ Last (blocksFor n) 0
+  to-hold : l .opened ≡ true → (a : Added) (on : Bool) (n : ℕ) → refusalOf (settle l o (holdPlan (l .settings) a on n)) ≡ Last (blocksFor n) 0
   unfolding holdPlan settle
-  to-hold a on n =
+  to-hold open′ a on n =
       let most : ℕ = max (blocksFor n) (l .settings .share) + o in
       either (ltb (l .settings .cap) (blocksFor n)) (λ e. simp e)
-      (λ e. simp e (either (leb most 64)
+      (λ e. simp (e, need-open (holding l n) open′) (either (leb most 64)
       (λ r. simp (r, le-ltb 64 most (leb-true most 64 r), le-ltb room 0 (omega arith)))
       (λ r. simp (r, lt-ltb 64 most (leb-false most 64 r)))))
 
-  module _ (fits : l .settings .share + o ≤ 64) where
+  module _ (open′ : l .opened ≡ true) (fits : l .settings .share + o ≤ 64) where
     none-to-hold : (u : ℕ) → Last 0 u ≡ first 0 ((ltb room u gives 20) ∷ [])
     none-to-hold u = simp (le-ltb (l .settings .cap) 0 (omega arith), le-ltb 64 (max 0 (l .settings .share) + o) (omega arith))
 
-    to-end : (a : Added) (on : Bool) (n : ℕ) → refusalOf (settle o (unitPlan room a on n)) ≡ Last 0 n
+    to-end : (a : Added) (on : Bool) (n : ℕ) → refusalOf (settle l o (unitPlan room a on n)) ≡ Last 0 n
     unfolding unitPlan settle
     to-end a on n = rw (none-to-hold n) (either (ltb room n) (λ e. simp e) (λ e. simp e))
 
-    to-stray : (a : Added) → refusalOf (settle o (Sure (Stray a))) ≡ Last 0 0
+    to-stray : (a : Added) → refusalOf (settle l o (Sure (Stray a))) ≡ Last 0 0
     unfolding settle
     to-stray a = rw (none-to-hold 0) (simp (le-ltb room 0 (omega arith)))
 
@@ -83,15 +84,15 @@ module _ (l : Lane) (o room : ℕ) where
       not-if : (m n : ℕ) → eqb f m ≡ true → (m ≡ n → ⊥) → eqb f n ≡ false
       not-if m n e d = ne-eqb f n (λ z. d (sym (eqb-true f m e) ∙ z))
 
-      grouping : refusalOf (settle o (groupingPlan l f (count p) user room)) ≡ Last (wouldHold l p) (wouldWrite l p)
+      grouping : refusalOf (settle l o (groupingPlan l f (count p) user room)) ≡ Last (wouldHold l p) (wouldWrite l p)
       unfolding groupingPlan wouldHold wouldWrite
       grouping =
           either (eqb f 3)
           (λ e. simp (e, not-if 3 1 e (λ z. omega arith), not-if 3 0 e (λ z. omega arith)) (to-end a false user))
-          (λ e. either (eqb f 1) (λ g. simp (e, g, not-if 1 2 g (λ z. omega arith)) (to-hold a false user))
+          (λ e. either (eqb f 1) (λ g. simp (e, g, not-if 1 2 g (λ z. omega arith)) (to-hold open′ a false user))
           (λ g. either (goesOn l f (count p))
           (λ on. either (eqb f 0)
-          (λ h. simp (e, g, h, not-if 0 2 h (λ z. omega arith), on) (to-hold a true (l .octets + user)))
+          (λ h. simp (e, g, h, not-if 0 2 h (λ z. omega arith), on) (to-hold open′ a true (l .octets + user)))
           (λ h.
           let ends : eqb f 2 ≡ true = eq-eqb f 2 (omega (arith, eqb-false f 3 e, eqb-false f 1 g, eqb-false f 0 h)) in
           simp (e, g, h, ends, on) (to-end a true (l .octets + user))))
@@ -121,7 +122,7 @@ ordered s shape i p octets room =
     (λ a. simp a (rw (faults (l .settings) p _) (either (not (eqb (fault (l .settings) p) 0)) (λ b. simp b)
     (λ b. simp b (either (repeats l (count p)) (λ c. simp c)
     (λ c. simp c (either (leb 262144 (l .packets)) (λ d. simp d)
-    (λ d. simp d (grouping l (others (s .lanes) i) room (share-fits s (is-sound s shape (then-sound s octets e .0)) i (not-false _ a)) p)))))))))))
+    (λ d. simp d (grouping l (others (s .lanes) i) room (not-false _ a) (share-fits s (is-sound s shape (then-sound s octets e .0)) i (not-false _ a)) p)))))))))))
 
 -- ---- no test for 19 holds of an open lane that would hold no more than its cap and has the room beside the others
 abbrev Not19 : ℕ → Type 0

@@ -5,10 +5,9 @@ use mathlib.Core.List.{List}
 use borrow.Author.Tests.{ne-eqb, eqb-true}
 use lib.Dec.{eqb}
 use Rattle.octets.specs.Order.{first}
-use Rattle.octets.specs.Output.{answer, unlessRefused}
+use Rattle.octets.specs.Output.{answer, leading, unlessRefused}
 use Rattle.octets.proofs.Order.{either, exactly}
 use Rattle.demands.specs.Entry.{Entry, Demand1}
-use Rattle.demands.specs.Entries.{leading}
 
 module _ (e : Entry) (number-for : e .Given → ℕ) (ordered : (g : e .Given) → number-for g ≡ first 0 (e .tests g)) where
   pub demand : ((g : e .Given) → (a : e .Answer) × ((l : e .Lent) × e .Permits g a l))

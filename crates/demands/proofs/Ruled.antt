@@ -1,5 +1,5 @@
 -- A packet that comes to the lane of a past: what is planned from the lane alone is the grouping rule's word on the packets accepted. The lane's
--- missing, breaks and goesOn are the rule's, and one law says what a counted packet makes of the lane.
+-- `missing`, `breaks` and `goesOn` are the rule's, and one law says what a counted packet makes of the lane.
 use Prim.Native.Nat.{ℕ, _+_, _≤_, max}
 use mathlib.Core.Path.{_≡_, refl, sym, subst, _∙_}
 use mathlib.Core.Bool.{Bool, true, false, cond, not, _&&_, true≢false}
@@ -14,21 +14,22 @@ use lib.ListN.{length, length-append}
 use Rattle.octets.specs.Octets.{one}
 use Rattle.octets.proofs.Order.{either}
 use Rattle.packet.specs.Space.{flags, count}
-use Rattle.pool.specs.Blocks.{blocksFor}
+use Rattle.marks.specs.Blocks.{blocksFor}
 use Rattle.lane.specs.declared.Settings.{Settings}
 use Rattle.lane.specs.declared.Lane.{Lane}
-use Rattle.lane.specs.declared.Added.{Added}
-use Rattle.lane.specs.declared.Step.{Step}
-use Rattle.lane.specs.declared.Step.the-variants.{Refuse, Repeat, Stray}
-use Rattle.lane.specs.declared.Plan.{Plan}
-use Rattle.lane.specs.declared.Plan.the-variants.{Sure}
-use Rattle.lane.specs.Packets.{fault, userData}
-use Rattle.lane.specs.Grouping.{missingBefore, goesOn, addedFrom}
-use Rattle.lane.specs.Grouping as lane
-use Rattle.lane.specs.Plans.{holdPlan, unitPlan, groupingPlan, acceptedPlan, packetPlan}
-use Rattle.lane.specs.Steps.{counted, laneAfter}
-use Rattle.lane.proofs.Accepted.{accepted-data}
-use Rattle.lane.proofs.Planned.{of-either}
+use Rattle.grouping.specs.declared.Added.{Added}
+use Rattle.grouping.specs.declared.Step.{Step}
+use Rattle.grouping.specs.declared.Step.the-variants.{Refuse, Repeat, Stray}
+use Rattle.grouping.specs.declared.Plan.{Plan}
+use Rattle.grouping.specs.declared.Plan.the-variants.{Sure}
+use Rattle.lane.specs.Lane.{need, holding}
+use Rattle.grouping.specs.Packets.{fault, userData}
+use Rattle.grouping.specs.Grouping.{missingBefore, goesOn, addedFrom}
+use Rattle.grouping.specs.Grouping as lane
+use Rattle.grouping.specs.Plans.{holdPlan, unitPlan, groupingPlan, acceptedPlan, packetPlan}
+use Rattle.grouping.specs.Steps.{counted, laneAfter}
+use Rattle.grouping.proofs.Accepted.{accepted-data}
+use Rattle.grouping.proofs.Planned.{of-either}
 use Rattle.intake.specs.Calls.{settle}
 use Rattle.intake.specs.After.{answerOf}
 use Rattle.demands.specs.Runs.{Call, takes, Reply, toPacket}
@@ -105,7 +106,7 @@ module _ (s : Settings) (ps : List Accepted) (small : lastCount ps ≤ 16383) (i
   Does = Steps (since s ps) (slotFrom (since s ps)) i p out
 
   abbrev Plans : Plan → Type 0
-  Plans d = (sum : ℕ) → Does (settle sum d)
+  Plans d = (sum : ℕ) → Does (settle l sum d)
 
   refuses : (number : ℕ) → Does (Refuse number)
   refuses = refused (since s ps) i p out
@@ -158,7 +159,7 @@ module _ (s : Settings) (ps : List Accepted) (small : lastCount ps ≤ 16383) (i
       unfolding holdPlan settle laneAfter one
       holds e f =
           of-either Plans (ltb (s .cap) (blocksFor n)) (λ t sum. refuses 19)
-          (λ t sum. of-either Does (leb (max (blocksFor n) (s .share) + sum) 64)
+          (λ t sum. of-either Does (leb (need (holding l n) + sum) 64)
           (λ r. accepts none (some (whole on)) e f) (λ r. refuses 19))
 
       ends : some (whole on) ≡ unit ps q → none ≡ group (q ∷ ps) → Plans (unitPlan (length out) (added ps q) on n)
@@ -208,11 +209,11 @@ module _ (s : Settings) (ps : List Accepted) (small : lastCount ps ≤ 16383) (i
 
 -- ---- so of every past, where lane v is the past's; a closed one refuses
 pub packet-follows : (past : Past) (v : Slot) → v ≡ slotFrom past → v .lane .last ≤ 16383 → (i : ℕ) (p out : List ℕ) (sum : ℕ)
-    → Steps past v i p out (settle sum (packetPlan (v .lane) p (length out)))
+    → Steps past v i p out (settle (v .lane) sum (packetPlan (v .lane) p (length out)))
 unfolding packetPlan settle
 packet-follows past v same few i p out sum =
-    subst (λ (v : Slot). v .lane .last ≤ 16383 → Steps past v i p out (settle sum (packetPlan (v .lane) p (length out)))) (sym same) (of-past past) few
+    subst (λ (v : Slot). v .lane .last ≤ 16383 → Steps past v i p out (settle (v .lane) sum (packetPlan (v .lane) p (length out)))) (sym same) (of-past past) few
   where
-    of-past : (past : Past) → laneFrom past .last ≤ 16383 → Steps past (slotFrom past) i p out (settle sum (packetPlan (laneFrom past) p (length out)))
+    of-past : (past : Past) → laneFrom past .last ≤ 16383 → Steps past (slotFrom past) i p out (settle (laneFrom past) sum (packetPlan (laneFrom past) p (length out)))
     of-past shut h = refused shut i p out 11
     of-past (since s ps) h = planned s ps h i p out sum

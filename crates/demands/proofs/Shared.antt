@@ -1,5 +1,5 @@
 -- Demand 3, of the blocks: every state that a run reaches is sound, so what holds of one sound state and of one call from there holds of the run.
-use Prim.Native.Nat.{ℕ, _+_, _/_, _<_, max}
+use Prim.Native.Nat.{ℕ, _+_, _/_, _<_}
 use Prim.{Unit}
 use mathlib.Core.Path.{_≡_, refl, ap, _∙_}
 use mathlib.Core.Bool.{Bool, true, false, not}
@@ -12,22 +12,22 @@ use lib.ListN.{length, getD, set, length-map, List·getD-eq-default}
 use lib.Seq.{getD-set-same}
 use Rattle.octets.proofs.Order.{either}
 use Rattle.packet.specs.Space.{flags, count}
-use Rattle.pool.specs.Blocks.{free, mark, blocksFor, find}
+use Rattle.marks.specs.Blocks.{free, mark, blocksFor, find}
 use Rattle.pool.specs.Octets.{place}
-use Rattle.pool.proofs.Finding.{bears}
-use Rattle.pool.proofs.Matched.{matched}
+use Rattle.marks.proofs.Finding.{bears}
+use Rattle.marks.proofs.Matched.{matched}
 use Rattle.lane.specs.declared.Lane.{Lane}
-use Rattle.lane.specs.declared.Added.{Added}
-use Rattle.lane.specs.declared.Step.{Step}
-use Rattle.lane.specs.declared.Step.the-variants as step
-use Rattle.lane.specs.declared.Plan.{Plan}
-use Rattle.lane.specs.Lane.{closed, held}
-use Rattle.lane.specs.Packets.{fault, userOctets}
-use Rattle.lane.specs.Grouping.{repeats, goesOn, addedFrom}
-use Rattle.lane.specs.Plans.{holdPlan, unitPlan, groupingPlan, acceptedPlan, packetPlan}
-use Rattle.lane.specs.Steps.{laneAfter}
-use Rattle.lane.proofs.Fine.{is-fine}
-use Rattle.lane.proofs.Planned.{of-either, held-most}
+use Rattle.grouping.specs.declared.Added.{Added}
+use Rattle.grouping.specs.declared.Step.{Step}
+use Rattle.grouping.specs.declared.Step.the-variants as step
+use Rattle.grouping.specs.declared.Plan.{Plan}
+use Rattle.lane.specs.Lane.{closed, held, need, holding}
+use Rattle.grouping.specs.Packets.{fault, userOctets}
+use Rattle.grouping.specs.Grouping.{repeats, goesOn, addedFrom}
+use Rattle.grouping.specs.Plans.{holdPlan, unitPlan, groupingPlan, acceptedPlan, packetPlan}
+use Rattle.grouping.specs.Steps.{laneAfter}
+use Rattle.lane.proofs.Fine.{is-fine, held-most}
+use Rattle.grouping.proofs.Planned.{of-either}
 use Rattle.intake.specs.declared.State.{State}
 use Rattle.intake.specs.declared.Answer.{Answer}
 use Rattle.intake.specs.declared.Answer.the-variants.{Held}
@@ -119,13 +119,13 @@ Flagged p (step.Unit a on n) = Unit {0}
 
 module _ (o : ℕ) (l : Lane) (p : List ℕ) (room : ℕ) where
   abbrev Says : Plan → Type 0
-  Says d = Flagged p (settle o d)
+  Says d = Flagged p (settle l o d)
 
   to-hold : (a : Added) (on : Bool) (n : ℕ) → on ≡ not (eqb (flags p) 1) → Says (holdPlan (l .settings) a on n)
   unfolding holdPlan settle
   to-hold a on n e =
       of-either Says (ltb (l .settings .cap) (blocksFor n)) (λ f. tt)
-      (λ f. of-either (Flagged p) (leb (max (blocksFor n) (l .settings .share) + o) 64) (λ g. e) (λ g. tt))
+      (λ f. of-either (Flagged p) (leb (need (holding l n) + o) 64) (λ g. e) (λ g. tt))
 
   to-end : (a : Added) (on : Bool) (n : ℕ) → Says (unitPlan room a on n)
   unfolding unitPlan settle

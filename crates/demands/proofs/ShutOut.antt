@@ -14,7 +14,7 @@ use Rattle.octets.proofs.Order.{either}
 use Rattle.intake.specs.declared.Answer.{Answer}
 use Rattle.intake.specs.declared.Answer.the-variants.{Refused, Repeat, Stray, Held, Unit}
 use Rattle.intake.specs.State.{laneAt}
-use Rattle.packet.specs.Reading.{fields, reading}
+use Rattle.reading.specs.Reading.{fields, reading}
 use Rattle.demands.specs.Runs.{Intake, Start, begun, Call, opens, takes, closes, Reply, toOpening, toPacket, toClosing, reply, after, run, laneOf, names}
 use Rattle.demands.specs.Rule.{repeats, missing, group, endings, missingInAll, broken, answerWith, answerTo}
 use Rattle.demands.specs.Past.{Past, shut, since, acceptedOf, isRefused, later, pastFrom}

@@ -10,11 +10,12 @@ use lib.Dec.{leb, eqb}
 use lib.ListN.{length, set, length-set, length-replicate}
 use Rattle.octets.specs.Output.{unlessRefused}
 use Rattle.octets.proofs.Order.{both}
-use Rattle.pool.specs.Matching.{matching}
-use Rattle.pool.proofs.Matched.{matching-fresh}
+use Rattle.marks.specs.Matching.{matching}
+use Rattle.marks.proofs.Matched.{matching-fresh}
 use Rattle.lane.specs.declared.Lane.{Lane}
 use Rattle.lane.specs.Lane.{held, need, fine}
-use Rattle.lane.proofs.Planned.{of-either, none-held}
+use Rattle.lane.proofs.Fine.{none-held}
+use Rattle.grouping.proofs.Planned.{of-either}
 use Rattle.intake.specs.declared.State.{State}
 use Rattle.intake.specs.State.{freshState, laneAt, total, others, every, sound, unsound}
 use Rattle.intake.specs.After.{withLane}

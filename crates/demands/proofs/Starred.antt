@@ -1,16 +1,16 @@
 -- The single statement of the starred cases: every row is what the definitions give. The checker computes it.
 use mathlib.Core.Path.{_≡_, refl}
 use mathlib.Core.List.{map}
-use Rattle.packet.specs.Reading.{header, size, readingTests, refusal, fields, reading, content}
+use Rattle.reading.specs.Reading.{header, size, readingTests, refusal, fields, reading, content}
 use Rattle.record.specs.Record.{possible}
-use Rattle.pool.specs.Blocks.{blocksFor, find}
-use Rattle.pool.specs.Matching.{found, holds, eachHolds, count, sum, matching}
+use Rattle.marks.specs.Blocks.{blocksFor, find}
+use Rattle.marks.specs.Matching.{found, holds, eachHolds, count, sum, matching}
 use Rattle.octets.specs.Octets.{one}
 use Rattle.lane.specs.Lane.{need, illegal, talliesPossible, fine}
-use Rattle.lane.specs.Packets.{fault}
-use Rattle.lane.specs.Grouping.{repeats, missingBefore, breaks, givesUp, goesOn}
-use Rattle.lane.specs.Plans.{unitPlan, groupingPlan, acceptedPlan, packetPlan}
-use Rattle.lane.specs.Steps.{laneAfter}
+use Rattle.grouping.specs.Packets.{fault}
+use Rattle.grouping.specs.Grouping.{repeats, missingBefore, breaks, givesUp, goesOn}
+use Rattle.grouping.specs.Plans.{unitPlan, groupingPlan, acceptedPlan, packetPlan}
+use Rattle.grouping.specs.Steps.{laneAfter}
 use Rattle.intake.specs.State.{freshState, total, others, every, sound, unsound}
 use Rattle.intake.specs.Calls.{openingRefusal, settle, packetStep}
 use Rattle.intake.specs.After.{opening, taking, releasedFrom, marksAfter}

@@ -1,6 +1,6 @@
 -- What a packet's step obeys in a sound state: what its plan does, and that there is room for the lane beside the others. So the state after it is
 -- sound.
-use Prim.Native.Nat.{ℕ, _+_, _≤_, _<_, max}
+use Prim.Native.Nat.{ℕ, _+_, _≤_, _<_}
 use mathlib.Core.Path.{_≡_, refl, sym, ap, _∙_}
 use mathlib.Core.Bool.{Bool, true, false, cond}
 use mathlib.Core.List.{List, map}
@@ -10,18 +10,19 @@ use lib.Dec.{leb}
 use lib.ListN.{length, set}
 use lib.Seq.{set-getD}
 use Rattle.octets.proofs.Order.{either}
-use Rattle.pool.specs.Blocks.{blocksFor}
-use Rattle.pool.specs.Matching.{sum}
+use Rattle.marks.specs.Blocks.{blocksFor}
+use Rattle.marks.specs.Matching.{sum}
 use Rattle.lane.specs.declared.Lane.{Lane}
-use Rattle.lane.specs.declared.Added.{Added}
-use Rattle.lane.specs.declared.Step.{Step}
-use Rattle.lane.specs.declared.Step.the-variants.{Refuse, Repeat, Stray, Hold, Unit}
-use Rattle.lane.specs.declared.Plan.{Plan}
-use Rattle.lane.specs.Lane.{held, need, fine}
-use Rattle.lane.specs.Steps.{laneAfter}
-use Rattle.lane.proofs.Accepted.{accepted-data}
-use Rattle.lane.proofs.Planned.{of-either, ToHold, Planned, planned, none-held, held-most}
-use Rattle.lane.proofs.Planned as plan
+use Rattle.lane.proofs.Fine.{none-held, held-most}
+use Rattle.grouping.specs.declared.Added.{Added}
+use Rattle.grouping.specs.declared.Step.{Step}
+use Rattle.grouping.specs.declared.Step.the-variants.{Refuse, Repeat, Stray, Hold, Unit}
+use Rattle.grouping.specs.declared.Plan.{Plan}
+use Rattle.lane.specs.Lane.{held, need, holding, fine}
+use Rattle.grouping.specs.Steps.{laneAfter}
+use Rattle.grouping.proofs.Accepted.{accepted-data}
+use Rattle.grouping.proofs.Planned.{of-either, ToHold, Planned, planned}
+use Rattle.grouping.proofs.Planned as plan
 use Rattle.intake.specs.declared.State.{State}
 use Rattle.intake.specs.State.{laneAt, others, unsound}
 use Rattle.intake.specs.Calls.{settle, packetStep}
@@ -54,7 +55,7 @@ module _ (s : State) (k : Sound s) (i : ℕ) (p : List ℕ) (octets room : ℕ) 
   room-empty l o on none share =
       omega (arith, need-open own o, need-open l on, room-now s k i (opened-small s k i o), ap blocksFor none ∙ none-held)
 
-  settled : {d : Plan} → Planned own p room d → Stepped s i p octets room (settle (others (s .lanes) i) d)
+  settled : {d : Plan} → Planned own p room d → Stepped s i p octets room (settle own (others (s .lanes) i) d)
   unfolding settle laneAfter
   settled (plan.refuses n few h) = refuses n (λ e. absurd (omega arith)) h
   settled plan.repeats = repeats
@@ -62,8 +63,8 @@ module _ (s : State) (k : Sound s) (i : ℕ) (p : List ℕ) (octets room : ℕ) 
   settled (plan.ends a on n o f g e h) = ends a on n (record { small = opened-small s k i o; good = g; room = room-empty (laneAfter own (Unit a on n)) o o refl refl })
       (omega (arith, accepted-data (own .settings) p f .1)) h
   settled (plan.holds a on n o f g e h t) =
-      of-either (Stepped s i p octets room) (leb (max (blocksFor n) (own .settings .share) + others (s .lanes) i) 64)
-      (λ r. holds a on n (record { small = opened-small s k i o; good = g; room = omega (arith, need-open (laneAfter own (Hold a on n)) o, leb-true (max (blocksFor n) (own .settings .share) + others (s .lanes) i) 64 r) })
+      of-either (Stepped s i p octets room) (leb (need (holding own n) + others (s .lanes) i) 64)
+      (λ r. holds a on n (record { small = opened-small s k i o; good = g; room = omega (arith, need-open (laneAfter own (Hold a on n)) o, need-open (holding own n) o, leb-true (need (holding own n) + others (s .lanes) i) 64 r) })
       (omega (arith, accepted-data (own .settings) p f .1)))
       (λ r. refuses 19 (λ z. absurd (omega arith)) (λ z. t))
 

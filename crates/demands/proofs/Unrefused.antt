@@ -12,16 +12,16 @@ use lib.ListN.{length}
 use Rattle.octets.proofs.Order.{either, both}
 use Rattle.packet.specs.Space.{flags, count}
 use Rattle.record.specs.Record.{recordSize}
-use Rattle.pool.specs.Blocks.{blocksFor}
+use Rattle.marks.specs.Blocks.{blocksFor}
 use Rattle.lane.specs.declared.Lane.{Lane}
-use Rattle.lane.specs.declared.Added.{Added}
-use Rattle.lane.specs.declared.Step.{Step}
-use Rattle.lane.specs.declared.Step.the-variants.{Refuse, Repeat, Stray, Hold}
-use Rattle.lane.specs.declared.Step.the-variants as step
-use Rattle.lane.specs.Lane.{held, illegal, talliesPossible, fine}
-use Rattle.lane.specs.Packets.{fault, userOctets}
-use Rattle.lane.specs.Grouping.{repeats, goesOn, addedFrom}
-use Rattle.lane.specs.Plans.{holdPlan, unitPlan, groupingPlan, acceptedPlan, packetPlan}
+use Rattle.grouping.specs.declared.Added.{Added}
+use Rattle.grouping.specs.declared.Step.{Step}
+use Rattle.grouping.specs.declared.Step.the-variants.{Refuse, Repeat, Stray, Hold}
+use Rattle.grouping.specs.declared.Step.the-variants as step
+use Rattle.lane.specs.Lane.{held, holding, illegal, talliesPossible, fine}
+use Rattle.grouping.specs.Packets.{fault, userOctets}
+use Rattle.grouping.specs.Grouping.{repeats, goesOn, addedFrom}
+use Rattle.grouping.specs.Plans.{holdPlan, unitPlan, groupingPlan, acceptedPlan, packetPlan}
 use Rattle.lane.proofs.Fine.{is-fine}
 use Rattle.intake.specs.declared.State.{State}
 use Rattle.intake.specs.State.{laneAt, total, others}
@@ -32,7 +32,7 @@ use Rattle.demands.specs.Runs.{Intake, Start, begun, Call, toOpening, to
 use Rattle.demands.specs.Order.{wouldHold, wouldWrite}
 use Rattle.demands.specs.Past.{isRefused}
 use Rattle.demands.specs.Demand3.{NothingAmiss, HasRoom, RoomInShare, GetsRoom, RepeatsChangeNothing, Opens, Closes}
-use Rattle.demands.proofs.Sound.{not-unsound, lane-fine}
+use Rattle.demands.proofs.Sound.{not-unsound, lane-fine, need-open}
 use Rattle.demands.proofs.Order.{share-fits}
 use Rattle.demands.proofs.Calls.{reached-sound}
 use Rattle.demands.proofs.View.{stepFor, run-size, settled, took-reply}
@@ -58,35 +58,35 @@ unfolding reply taking
 taken-reply x i p out h = taken-told (stepFor x i p out) (takingOut (x .state) i p (x .pool) out) h
 
 module _ (l : Lane) (p : List ℕ) (room o : ℕ) where
-  to-hold : (a : Added) (on : Bool) (n : ℕ) → blocksFor n ≤ l .settings .cap → max (blocksFor n) (l .settings .share) + o ≤ 64 → Taken (settle o (holdPlan (l .settings) a on n))
+  to-hold : l .opened ≡ true → (a : Added) (on : Bool) (n : ℕ) → blocksFor n ≤ l .settings .cap → max (blocksFor n) (l .settings .share) + o ≤ 64 → Taken (settle l o (holdPlan (l .settings) a on n))
   unfolding holdPlan settle
-  to-hold a on n most beside = simp (le-ltb (l .settings .cap) (blocksFor n) most, le-leb (max (blocksFor n) (l .settings .share) + o) 64 beside) tt
+  to-hold open′ a on n most beside = simp (need-open (holding l n) open′, le-ltb (l .settings .cap) (blocksFor n) most, le-leb (max (blocksFor n) (l .settings .share) + o) 64 beside) tt
 
-  to-end : (a : Added) (on : Bool) (n : ℕ) → n ≤ room → Taken (settle o (unitPlan room a on n))
+  to-end : (a : Added) (on : Bool) (n : ℕ) → n ≤ room → Taken (settle l o (unitPlan room a on n))
   unfolding unitPlan settle
   to-end a on n fits = simp (le-ltb room n fits) tt
 
-  grouping : wouldHold l p ≤ l .settings .cap → max (wouldHold l p) (l .settings .share) + o ≤ 64 → wouldWrite l p ≤ room
-      → Taken (settle o (groupingPlan l (flags p) (count p) (userOctets (l .settings) p) room))
+  grouping : l .opened ≡ true → wouldHold l p ≤ l .settings .cap → max (wouldHold l p) (l .settings .share) + o ≤ 64 → wouldWrite l p ≤ room
+      → Taken (settle l o (groupingPlan l (flags p) (count p) (userOctets (l .settings) p) room))
   unfolding groupingPlan wouldHold wouldWrite settle
-  grouping most beside fits =
+  grouping open′ most beside fits =
       let f : ℕ = flags p in
       let a : Added = addedFrom l f (count p) in
       let user : ℕ = userOctets (l .settings) p in
       either (eqb f 3) (λ e. simp e (to-end a false user (simp e at fits)))
-      (λ no3. simp no3 (either (eqb f 1) (λ e. simp e (to-hold a false user (simp e at most) (simp e at beside)))
+      (λ no3. simp no3 (either (eqb f 1) (λ e. simp e (to-hold open′ a false user (simp e at most) (simp e at beside)))
       (λ no1. simp no1 (either (goesOn l f (count p))
-      (λ on. simp on (either (eqb f 0) (λ e. simp e (to-hold a true (l .octets + user) (simp (no1, e, on) at most) (simp (no1, e, on) at beside)))
+      (λ on. simp on (either (eqb f 0) (λ e. simp e (to-hold open′ a true (l .octets + user) (simp (no1, e, on) at most) (simp (no1, e, on) at beside)))
       (λ no0.
       let e : eqb f 2 ≡ true = eq-eqb f 2 (omega (arith, eqb-false f 3 no3, eqb-false f 1 no1, eqb-false f 0 no0)) in
       simp no0 (to-end a true (l .octets + user) (simp (no3, e, on) at fits)))))
       (λ on. simp on tt)))))
 
-  takes-it : l .opened ≡ true → fault (l .settings) p ≡ 0 → Taken (settle o (acceptedPlan l (flags p) (count p) (userOctets (l .settings) p) room)) → Taken (settle o (packetPlan l p room))
+  takes-it : l .opened ≡ true → fault (l .settings) p ≡ 0 → Taken (settle l o (acceptedPlan l (flags p) (count p) (userOctets (l .settings) p) room)) → Taken (settle l o (packetPlan l p room))
   unfolding packetPlan
   takes-it open′ sound h = simp (open′, sound) h
 
-  accepts : l .packets < 262144 → Taken (settle o (groupingPlan l (flags p) (count p) (userOctets (l .settings) p) room)) → Taken (settle o (acceptedPlan l (flags p) (count p) (userOctets (l .settings) p) room))
+  accepts : l .packets < 262144 → Taken (settle l o (groupingPlan l (flags p) (count p) (userOctets (l .settings) p) room)) → Taken (settle l o (acceptedPlan l (flags p) (count p) (userOctets (l .settings) p) room))
   unfolding acceptedPlan settle
   accepts few h = either (repeats l (count p)) (λ e. simp e tt) (λ e. simp (e, lt-leb 262144 (l .packets) few) h)
 
@@ -98,13 +98,13 @@ module _ (start : Start) (calls : List Call) (i : ℕ) (packet out : List ℕ) w
   abbrev l : Lane
   l = laneAt (x .state) i
 
-  planned : stepFor x i packet out ≡ settle (others (x .state .lanes) i) (packetPlan l packet (length out))
+  planned : stepFor x i packet out ≡ settle l (others (x .state .lanes) i) (packetPlan l packet (length out))
   planned = settled x (reached-sound start calls) (run-size (begun start) calls ∙ start .whole) i packet out
 
   gets : NothingAmiss l packet out → HasRoom (x .state) i packet → isRefused (reply x (takes i packet out)) ≡ false
   gets (open′, sound, few, fits) (most, beside) =
       let o : ℕ = others (x .state .lanes) i in
-      let h = takes-it l packet (length out) o open′ sound (accepts l packet (length out) o few (grouping l packet (length out) o most beside fits)) in
+      let h = takes-it l packet (length out) o open′ sound (accepts l packet (length out) o few (grouping l packet (length out) o open′ most beside fits)) in
       taken-reply x i packet out (rw planned h)
 
 pub gets-room : GetsRoom

@@ -14,12 +14,12 @@ use Rattle.octets.specs.Output.{put, unlessRefused}
 use Rattle.pool.specs.Octets.{gathered}
 use Rattle.lane.specs.declared.Settings.{Settings}
 use Rattle.lane.specs.declared.Lane.{Lane}
-use Rattle.lane.specs.declared.Step.{Step}
-use Rattle.lane.specs.declared.Step.the-variants.{Refuse, Repeat, Stray, Hold, Unit}
+use Rattle.grouping.specs.declared.Step.{Step}
+use Rattle.grouping.specs.declared.Step.the-variants.{Refuse, Repeat, Stray, Hold, Unit}
 use Rattle.lane.specs.Lane.{closed}
-use Rattle.lane.specs.Packets.{userData}
-use Rattle.lane.specs.Plans.{packetPlan}
-use Rattle.lane.specs.Steps.{laneAfter}
+use Rattle.grouping.specs.Packets.{userData}
+use Rattle.grouping.specs.Plans.{packetPlan}
+use Rattle.grouping.specs.Steps.{laneAfter}
 use Rattle.intake.specs.declared.State.{State}
 use Rattle.intake.specs.State.{laneAt, others}
 use Rattle.intake.specs.Calls.{openingRefusal, closingRefusal, settle, packetStep}
@@ -130,7 +130,7 @@ took-reply x i p out = ap (toPacket (answerOf (stepFor x i p out))) (out-same (x
 module _ (x : Intake) (k : Sound (x .state)) (size : length (x .pool) ≡ 16384) where
   module _ (i : ℕ) where
     -- what is done is settled by the lane and the others' sum
-    pub settled : (p out : List ℕ) → stepFor x i p out ≡ settle (others (x .state .lanes) i) (packetPlan (laneAt (x .state) i) p (length out))
+    pub settled : (p out : List ℕ) → stepFor x i p out ≡ settle (laneAt (x .state) i) (others (x .state .lanes) i) (packetPlan (laneAt (x .state) i) p (length out))
     unfolding packetStep
     settled p out = rw size (simp (not-unsound (x .state) k))
 

@@ -1,6 +1,6 @@
 -- Demand 2. Reading and writing agree with the books as condensed in the paper, and each reader gives back what its writer was given. Every unit,
 -- missing count and credit is the one the grouping rule gives for the packets that source had accepted.
-use Prim.Native.Nat.{ℕ, _≤_, _<_}
+use Prim.Native.Nat.{ℕ, _≤_}
 use mathlib.Core.Path.{_≡_}
 use mathlib.Core.Bool.{true, cond}
 use mathlib.Core.List.{List, [], _∷_, _++_}
@@ -11,16 +11,16 @@ use Rattle.octets.specs.Octets.{AreOctets}
 use Rattle.octets.specs.Output.{put}
 use Rattle.packet.specs.Space.{version, packetType, secondary, apid, flags, count}
 use Rattle.packet.specs.Encapsulation.{protocol, user, extension, encapHeader}
-use Rattle.packet.specs.Reading.{size, refusal, reading, content}
+use Rattle.reading.specs.Reading.{size, refusal, reading, content}
 use Rattle.packet.specs.Told.{told}
 use Rattle.packet.specs.declared.Packet.the-variants.{Space, Encapsulation}
 use Rattle.writing.specs.Space.{spaceOctets, spaceRefusal, spaceAfter}
 use Rattle.writing.specs.Encapsulation.{shortest, encapOctets, encapRefusal, encapAfter}
 use Rattle.writing.specs.Carries.{IsShortest}
-use Rattle.record.specs.Record.{recordSize, unitsIn}
+use Rattle.record.specs.Record.{recordSize, recordIn, Wide, recordOctets, possible}
 use Rattle.record.specs.Reading.{recordReading, fileReading}
-use Rattle.record.specs.Writing.{writingRefusal}
-use Rattle.record.specs.Told.{toldRead, toldFile, isPossible, octetsOf, afterOf}
+use Rattle.record.specs.Writing.{writingRefusal, recordAfter}
+use Rattle.record.specs.Told.{toldRead, toldFile}
 use Rattle.record.specs.declared.Record.{Record}
 use Rattle.record.specs.declared.RecordRead.the-variants.{Fields}
 use Rattle.record.specs.declared.RecordFile.the-variants.{Records}
@@ -49,24 +49,20 @@ abbrev pub HeaderIsShortest : Type 0
 HeaderIsShortest =
     (p u x room : ℕ) (given : List ℕ) → AreOctets given → encapRefusal p u x (length given) room ≡ 0 → IsShortest (shortest p u (length given)) p u x given
 
--- a record whose fields have the widths of the struct
-abbrev pub Wide : Record → Type 0
-Wide r = (r .station < 65536) × (r .apid < 65536) × (r .units < 4294967296) × (r .packets < 4294967296) × (r .missing < 4294967296) × (r .broken < 4294967296)
-
 abbrev pub RecordGivenBack : Type 0
 RecordGivenBack =
-    (r : Record) (out : List ℕ) → Wide r → writingRefusal (r .apid) (r .units) (r .packets) (r .missing) (r .broken) (length out) ≡ 0
-    → recordReading (take recordSize (afterOf r out)) ≡ toldRead (Fields r)
+    (r : Record) (out : List ℕ) → Wide r → writingRefusal r (length out) ≡ 0
+    → recordReading (take recordSize (recordAfter r out)) ≡ toldRead (Fields r)
 
 -- and a file of such records that are possible, one after another, reads as their number
 pub record Possible : Type 0 where
   pub credit : Record
   pub wide : Wide credit
-  pub possible : isPossible credit ≡ true
+  pub possible : possible credit ≡ true
 
 unfoldable pub fileOf : List Possible → List ℕ
 fileOf [] = []
-fileOf (r ∷ rs) = octetsOf (r .credit) ++ fileOf rs
+fileOf (r ∷ rs) = recordOctets (r .credit) ++ fileOf rs
 
 abbrev pub FileGivenBack : Type 0
 FileGivenBack = (rs : List Possible) → fileReading (fileOf rs) ≡ toldFile (Records (length rs))
@@ -94,7 +90,7 @@ EncapsulationWrittenAgain =
 abbrev pub RecordWrittenAgain : Type 0
 RecordWrittenAgain =
     (r : Record) (s : List ℕ) → AreOctets s → recordReading s ≡ toldRead (Fields r)
-    → (octetsOf r ≡ s) × ((room : ℕ) → recordSize ≤ room → writingRefusal (r .apid) (r .units) (r .packets) (r .missing) (r .broken) room ≡ 0)
+    → (recordOctets r ≡ s) × ((room : ℕ) → recordSize ≤ room → writingRefusal r room ≡ 0)
 
 -- ---- the lane that has accepted the packets of its past
 abbrev pub laneFrom : Past → Lane
@@ -128,7 +124,7 @@ ruled shut (takes i packet out) = none
 ruled shut (closes i out) = none
 ruled (since settings packets) (opens i new) = none
 ruled (since settings packets) (takes i packet out) = some (ruledPacket packets (acceptedOf settings packet) out)
-ruled (since settings packets) (closes i out) = some (toClosing 0 (put out 0 (octetsOf (credit settings packets))))
+ruled (since settings packets) (closes i out) = some (toClosing 0 (put out 0 (recordOctets (credit settings packets))))
 
 -- ---- for every run from a fresh start: each reply that isn't a refusal is the one that the grouping rule gives for the packets that the lane had
 -- accepted
@@ -151,7 +147,7 @@ LanesAreTheRules =
 -- ---- So a credit of n units needs n accepted packets that each end a unit, and each was answered Unit
 abbrev pub CreditNeeds : ℕ → Type 0
 CreditNeeds n =
-    (start : Start) (calls : List Call) (i : ℕ) (out credited : List ℕ) → replied start calls (closes i out) ≡ toClosing 0 credited → unitsIn credited ≡ n
+    (start : Start) (calls : List Call) (i : ℕ) (out credited : List ℕ) → replied start calls (closes i out) ≡ toClosing 0 credited → recordIn credited .units ≡ n
     → (length (endings (acceptedBy i start calls)) ≡ n) × (n ≤ length (acceptedBy i start calls)) × (unitsTold i (begun start) calls ≡ n)
 
 pub record Demand2 : Type 0 where

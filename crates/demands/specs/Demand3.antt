@@ -12,14 +12,14 @@ use lib.Dec.{eqb, ltb}
 use Rattle.packet.specs.Space as space
 use Rattle.packet.specs.Space.{flags}
 use Rattle.record.specs.Record.{recordSize}
-use Rattle.pool.specs.Blocks.{blockOctets, free, mark, freed}
+use Rattle.marks.specs.Blocks.{blockOctets, free, mark, freed}
 use Rattle.pool.specs.Octets.{place}
-use Rattle.pool.specs.Matching.{count, isFree, sum}
+use Rattle.marks.specs.Matching.{count, isFree, sum}
 use Rattle.lane.specs.declared.Settings.{Settings}
 use Rattle.lane.specs.declared.Lane.{Lane}
 use Rattle.lane.specs.Lane.{held, illegal}
-use Rattle.lane.specs.Packets.{fault}
-use Rattle.lane.specs.Grouping.{repeats}
+use Rattle.grouping.specs.Packets.{fault}
+use Rattle.grouping.specs.Grouping.{repeats}
 use Rattle.intake.specs.declared.State.{State}
 use Rattle.intake.specs.declared.Answer.the-variants.{Repeat, Held}
 use Rattle.intake.specs.State.{laneAt, total, others}
@@ -70,7 +70,7 @@ GetsRoom =
     (start : Start) (calls : List Call) (i : ℕ) (packet out : List ℕ) → NothingAmiss (laneAt (reached start calls) i) packet out
     → HasRoom (reached start calls) i packet → isRefused (replied start calls (takes i packet out)) ≡ false
 
--- a packet with the count of the last one is answered Repeat, at a full unitsToldAfter too, and nothing changes
+-- a packet with the count of the last one is answered Repeat, at a full tally too, and nothing changes
 abbrev pub RepeatsChangeNothing : Type 0
 RepeatsChangeNothing =
     (start : Start) (calls : List Call) (i : ℕ) (packet out : List ℕ)

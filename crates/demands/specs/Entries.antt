@@ -1,15 +1,14 @@
 -- The public entries: readers, writers, records, opening, packet, closing. Each has the promise that its contract has, to which `EachEntry` (Demand1.antt)
 -- ties it. A lane number over 7 is no open lane's (`laneAt`), so that 11 has one test but at opening.
-use Prim.Native.Nat.{ℕ, _%_}
+use Prim.Native.Nat.{ℕ}
 use Prim.{Unit}
 use mathlib.Core.Path.{_≡_}
-use mathlib.Core.Bool.{not}
-use mathlib.Core.List.{List, [], _∷_}
-use lib.Dec.{eqb, ltb}
-use lib.ListN.{length, drop, getD}
-use Rattle.octets.specs.Order.{Test, _gives_}
+use mathlib.Core.List.{List}
+use lib.ListN.{length, drop}
+use Rattle.octets.specs.Order.{numbersOf}
+use Rattle.octets.specs.Output.{leading}
 use Rattle.packet.specs.declared.Packet.{Packet}
-use Rattle.packet.specs.Reading.{readingTests, reading}
+use Rattle.reading.specs.Reading.{readingTests, reading}
 use Rattle.packet.specs.Told as packetTold
 use Rattle.writing.specs.declared.Written.{Written}
 use Rattle.writing.specs.Space.{spaceTests, spaceTold, spaceAfter}
@@ -19,10 +18,9 @@ use Rattle.record.specs.declared.Record.{Record}
 use Rattle.record.specs.declared.RecordRead.{RecordRead}
 use Rattle.record.specs.declared.RecordWritten.{RecordWritten}
 use Rattle.record.specs.declared.RecordFile.{RecordFile}
-use Rattle.record.specs.Record.{recordSize}
-use Rattle.record.specs.Reading.{recordTests, recordReading, recordsIn, impossibleIn, fileReading}
-use Rattle.record.specs.Writing.{writingTests}
-use Rattle.record.specs.Told.{toldRead, toldWritten, toldFile, writtenOf, afterOf}
+use Rattle.record.specs.Reading.{recordTests, recordReading, fileTests, fileReading}
+use Rattle.record.specs.Writing.{writingTests, recordTold, recordAfter}
+use Rattle.record.specs.Told.{toldRead, toldWritten, toldFile}
 use Rattle.lane.specs.declared.Settings.{Settings}
 use Rattle.intake.specs.declared.State.{State}
 use Rattle.intake.specs.declared.Changed.{Changed}
@@ -34,10 +32,6 @@ use Rattle.intake.specs.Told.{told, telling}
 use Rattle.demands.specs.Runs.{Shaped}
 use Rattle.demands.specs.Order.{packetTests}
 use Rattle.demands.specs.Entry.{Entry}
-
--- what an answer tells begins with the refusal's number, or with 0
-abbrev pub leading : List ℕ → ℕ
-leading told = getD told 0 0
 
 -- ---- Reading: 1 for no octets, 2, 1 for the header, then 3, or 7, 4, 5, 6, then 1 for the packet
 abbrev pub readPacket : Entry
@@ -118,12 +112,9 @@ readRecord = record {
   Lent = Unit {0};
   before = λ s. tt;
   number = λ a. leading (toldRead a);
-  tests = recordTests;
+  tests = λ s. numbersOf (recordTests s);
   Permits = λ s a l. toldRead a ≡ recordReading s;
 }
-
-abbrev pub fileOrder : List ℕ → List (Test ℕ)
-fileOrder s = (not (eqb (length s % recordSize) 0) gives 26) ∷ (ltb (impossibleIn s) (recordsIn s) gives 25) ∷ []
 
 -- 25 from a record file also the index, which is part of the answer
 abbrev pub readRecordFile : Entry
@@ -133,7 +124,7 @@ readRecordFile = record {
   Lent = Unit {0};
   before = λ s. tt;
   number = λ a. leading (toldFile a);
-  tests = fileOrder;
+  tests = λ s. numbersOf (fileTests s);
   Permits = λ s a l. toldFile a ≡ fileReading s;
 }
 
@@ -142,9 +133,6 @@ pub record RecordGiven : Type 0 where
   pub credit : Record
   pub out : List ℕ
 
-abbrev pub creditTests : RecordGiven → List (Test ℕ)
-creditTests g = writingTests (g .credit .apid) (g .credit .units) (g .credit .packets) (g .credit .missing) (g .credit .broken) (length (g .out))
-
 abbrev pub writeRecord : Entry
 writeRecord = record {
   Given = RecordGiven;
@@ -152,8 +140,8 @@ writeRecord = record {
   Lent = List ℕ;
   before = λ g. g .out;
   number = λ a. leading (toldWritten a);
-  tests = creditTests;
-  Permits = λ g a out. (toldWritten a ≡ writtenOf (g .credit) (g .out)) × (out ≡ afterOf (g .credit) (g .out));
+  tests = λ g. numbersOf (writingTests (g .credit) (length (g .out)));
+  Permits = λ g a out. (toldWritten a ≡ recordTold (g .credit) (length (g .out))) × (out ≡ recordAfter (g .credit) (g .out));
 }
 
 -- ---- Opening: 24, 11, 21, 22, 23. The state is handed in and back; the pool is lent for reading, which can't change it

@@ -6,8 +6,8 @@ use mathlib.Core.Bool.{true, false}
 use mathlib.Core.List.{List, [], _∷_}
 use lib.ListN.{replicate}
 use Rattle.writing.specs.Space.{spaceOctets}
-use Rattle.pool.specs.Blocks.{poolOctets}
-use Rattle.pool.specs.Matching.{count, isFree}
+use Rattle.pool.specs.Octets.{poolOctets}
+use Rattle.marks.specs.Matching.{count, isFree}
 use Rattle.lane.specs.declared.Settings.{Settings}
 use Rattle.intake.specs.declared.State.{State}
 use Rattle.intake.specs.declared.Answer.the-variants.{Refused, Repeat, Stray, Held, Unit}

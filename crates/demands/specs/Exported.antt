@@ -6,18 +6,17 @@ use mathlib.Core.Path.{_≡_}
 use mathlib.Core.Bool.{Bool}
 use mathlib.Core.List.{List}
 use lib.ListN.{length}
-use Rattle.packet.specs.Reading.{readingTests, refusal}
+use Rattle.reading.specs.Reading.{readingTests, refusal}
 use Rattle.writing.specs.Space.{spaceRefusal, spaceAfter}
 use Rattle.writing.specs.Encapsulation.{encapRefusal, encapAfter}
-use Rattle.record.specs.Reading.{recordTests, recordRefusal, fileRefusal}
-use Rattle.record.specs.Writing.{writingRefusal}
-use Rattle.record.specs.Told.{afterOf}
+use Rattle.record.specs.Reading.{recordRefusal, fileRefusal}
+use Rattle.record.specs.Writing.{writingRefusal, recordAfter}
 use Rattle.branmuslin.specs.Lent.{packetAfter, spaceWrittenAfter, encapWrittenAfter, recordNumbersAfter, recordsAfter, indexAfter}
 use Rattle.intake.specs.After.{taking, takingPool, takingOut}
 use Rattle.lanes.specs.declared.Numbered.{Numbered}
 use Rattle.lanes.specs.Numbers.{numbered}
 use Rattle.demands.specs.Entry.{Entry}
-use Rattle.demands.specs.Entries.{SpacePacket, EncapsulationPacket, RecordGiven, Taking, fileOrder, creditTests}
+use Rattle.demands.specs.Entries.{SpacePacket, EncapsulationPacket, RecordGiven, Taking}
 use Rattle.demands.specs.Entries.{readPacket, packetAt, writeSpace, writeEncapsulation, readRecord, readRecordFile, writeRecord, openLane, takePacket, closeLane}
 
 -- octets, and the numbers of a struct that is lent
@@ -43,7 +42,7 @@ readRecordC = record {
   Lent = List ℕ;
   before = λ g. g .numbers;
   number = λ a. a;
-  tests = λ g. recordTests (g .octets);
+  tests = λ g. readRecord .tests (g .octets);
   Permits = λ g a numbers. (a ≡ recordRefusal (g .octets)) × (numbers ≡ recordNumbersAfter (g .octets) (g .numbers));
 }
 
@@ -87,10 +86,8 @@ writeRecordC = record {
   Lent = List ℕ;
   before = λ g. g .out;
   number = λ a. a;
-  tests = creditTests;
-  Permits = λ g a out.
-      (a ≡ writingRefusal (g .credit .apid) (g .credit .units) (g .credit .packets) (g .credit .missing) (g .credit .broken) (length (g .out)))
-      × (out ≡ afterOf (g .credit) (g .out));
+  tests = writeRecord .tests;
+  Permits = λ g a out. (a ≡ writingRefusal (g .credit) (length (g .out))) × (out ≡ recordAfter (g .credit) (g .out));
 }
 
 -- octets, and two numbers that are lent
@@ -107,7 +104,7 @@ readRecordFileC = record {
   Lent = ℕ;
   before = λ g. g .records;
   number = λ a. a .0;
-  tests = λ g. fileOrder (g .octets);
+  tests = λ g. readRecordFile .tests (g .octets);
   Permits = λ g a records. (a .0 ≡ fileRefusal (g .octets)) × ((records ≡ recordsAfter (g .octets) (g .records)) × (a .1 ≡ indexAfter (g .octets) (g .index)));
 }
 

@@ -1,7 +1,7 @@
 -- Every public function of the code, by its name: its signature, its contract and its code, as the toolchain has them.
 use mathlib.Core.Path.{_≡_}
 use denote.Ref.{ptr, now}
-use Rattle.packet.proofs.read_packet as readPacket
+use Rattle.reading.proofs.read_packet as readPacket
 use Rattle.walk.proofs.packet_at as packetAt
 use Rattle.writing.proofs.write_space as writeSpace
 use Rattle.writing.proofs.write_encapsulation as writeEncapsulation
@@ -33,19 +33,22 @@ use Rattle.numbers.proofs.larger as largerOf
 use Rattle.packet.proofs.number_of as numberOf
 use Rattle.packet.proofs.header_of as headerOf
 use Rattle.packet.proofs.size_of as sizeOf
-use Rattle.packet.proofs.data_of as dataOf
+use Rattle.reading.proofs.data_of as dataOf
 use Rattle.walk.proofs.walk as walkAll
 use Rattle.record.proofs.is_possible as isPossible
-use Rattle.pool.proofs.blocks_for as blocksFor
-use Rattle.pool.proofs.grant_blocks as grantBlocks
-use Rattle.pool.proofs.free_blocks as freeBlocks
+use Rattle.record.proofs.front_record as frontRecord
+use Rattle.marks.proofs.blocks_for as blocksFor
+use Rattle.marks.proofs.find_from as findFrom
+use Rattle.marks.proofs.grant_blocks as grantBlocks
+use Rattle.marks.proofs.free_blocks as freeBlocks
+use Rattle.marks.proofs.marks_match as marksMatch
 use Rattle.pool.proofs.store_octets as storeOctets
 use Rattle.pool.proofs.gather_octets as gatherOctets
-use Rattle.pool.proofs.marks_match as marksMatch
+use Rattle.lane.proofs.need_with as needWith
 use Rattle.lane.proofs.need_of as needOf
 use Rattle.lane.proofs.is_illegal as isIllegal
 use Rattle.lane.proofs.is_fine as isFine
-use Rattle.lane.proofs.plan_packet as planPacket
+use Rattle.grouping.proofs.plan_packet as planPacket
 use Rattle.intake.proofs.fresh_start as freshStart
 use Rattle.intake.proofs.is_sound as isSound
 use Rattle.lanes.proofs.branmuslin_fresh_start as branmuslinFreshStart
@@ -81,12 +84,15 @@ pub data Public : Type 0 where
   data-of : Public
   walk : Public
   is-possible : Public
+  front-record : Public
   blocks-for : Public
+  find-from : Public
   grant-blocks : Public
   free-blocks : Public
+  marks-match : Public
   store-octets : Public
   gather-octets : Public
-  marks-match : Public
+  need-with : Public
   need-of : Public
   is-illegal : Public
   is-fine : Public
@@ -146,12 +152,15 @@ function data-of =
     record { ended = dataOf.ended; clauses = λ M. dataOf.clauses; routine = dataOf.Symbol.routine; Same = λ κs r q. (ptr r ≡ ptr q) × (now r ≡ now q) }
 function walk = valued walkAll.ended (λ M. walkAll.clauses) walkAll.Symbol.routine
 function is-possible = valued isPossible.ended (λ M. isPossible.clauses) isPossible.Symbol.routine
+function front-record = valued frontRecord.ended (λ M. frontRecord.clauses) frontRecord.Symbol.routine
 function blocks-for = valued blocksFor.ended (λ M. blocksFor.clauses) blocksFor.Symbol.routine
+function find-from = valued findFrom.ended (λ M. findFrom.clauses) findFrom.Symbol.routine
 function grant-blocks = valued grantBlocks.ended (λ M. grantBlocks.clauses) grantBlocks.Symbol.routine
 function free-blocks = valued freeBlocks.ended (λ M. freeBlocks.clauses) freeBlocks.Symbol.routine
+function marks-match = valued marksMatch.ended (λ M. marksMatch.clauses) marksMatch.Symbol.routine
 function store-octets = valued storeOctets.ended (λ M. storeOctets.clauses) storeOctets.Symbol.routine
 function gather-octets = valued gatherOctets.ended (λ M. gatherOctets.clauses) gatherOctets.Symbol.routine
-function marks-match = valued marksMatch.ended (λ M. marksMatch.clauses) marksMatch.Symbol.routine
+function need-with = valued needWith.ended (λ M. needWith.clauses) needWith.Symbol.routine
 function need-of = valued needOf.ended (λ M. needOf.clauses) needOf.Symbol.routine
 function is-illegal = valued isIllegal.ended (λ M. isIllegal.clauses) isIllegal.Symbol.routine
 function is-fine = valued isFine.ended (λ M. isFine.clauses) isFine.Symbol.routine

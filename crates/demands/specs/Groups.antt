@@ -2,7 +2,7 @@
 use Prim.Native.Nat.{ℕ, _<_}
 use mathlib.Core.Path.{_≡_}
 use mathlib.Core.List.{List}
-use Rattle.pool.specs.Blocks.{mark}
+use Rattle.marks.specs.Blocks.{mark}
 use Rattle.pool.specs.Octets.{gathered}
 use Rattle.lane.specs.Lane.{held}
 use Rattle.intake.specs.declared.State.{State}

@@ -5,13 +5,13 @@ use mathlib.Core.List.{List, [], _∷_, _++_}
 use lib.Dec.{eqb, ltb, leb}
 use Rattle.octets.specs.Order.{Test, _gives_, first}
 use Rattle.packet.specs.Space.{flags, count}
-use Rattle.packet.specs.Reading.{readingTests}
-use Rattle.pool.specs.Blocks.{blocksFor}
+use Rattle.reading.specs.Reading.{readingTests}
+use Rattle.marks.specs.Blocks.{blocksFor}
 use Rattle.lane.specs.declared.Lane.{Lane}
-use Rattle.lane.specs.declared.Step.{Step}
-use Rattle.lane.specs.declared.Step.the-variants.{Refuse, Repeat, Stray, Hold, Unit}
-use Rattle.lane.specs.Packets.{laneTests, userOctets}
-use Rattle.lane.specs.Grouping.{repeats, goesOn}
+use Rattle.grouping.specs.declared.Step.{Step}
+use Rattle.grouping.specs.declared.Step.the-variants.{Refuse, Repeat, Stray, Hold, Unit}
+use Rattle.grouping.specs.Packets.{laneTests, userOctets}
+use Rattle.grouping.specs.Grouping.{repeats, goesOn}
 use Rattle.intake.specs.declared.State.{State}
 use Rattle.intake.specs.State.{laneAt, others, unsound}
 

@@ -6,7 +6,7 @@ use lib.Dec.{eqb}
 use Rattle.octets.specs.Octets.{one}
 use Rattle.packet.specs.Space.{flags, count}
 use Rattle.lane.specs.declared.Settings.{Settings}
-use Rattle.lane.specs.Packets.{userData}
+use Rattle.grouping.specs.Packets.{userData}
 use Rattle.intake.specs.declared.Answer.the-variants.{Refused, Repeat, Stray, Held, Unit}
 use Rattle.demands.specs.Runs.{Intake, Call, opens, takes, closes, Reply, toOpening, toPacket, toClosing, reply, after, names}
 use Rattle.demands.specs.Rule.{Accepted}

@@ -76,7 +76,7 @@ answerWith none none m gave = Stray m gave
 unfoldable pub answerTo : List Accepted → Accepted → Answer
 answerTo before p = answerWith (unit before p) (group (p ∷ before)) (missing before p) (givesUp before p)
 
--- ---- 3. the tallies after all the packets: the packet unitsToldAfter is their number
+-- ---- 3. the tallies after all the packets: the packet tally is their number
 -- the packets that each end a unit, and how many these are
 unfoldable pub endings : List Accepted → List Accepted
 endings [] = []

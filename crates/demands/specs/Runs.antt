@@ -6,7 +6,7 @@ use mathlib.Core.Bool.{Bool, cond}
 use mathlib.Core.List.{List, [], _∷_}
 use lib.ListN.{length, replicate, length-replicate}
 use lib.Dec.{eqb}
-use Rattle.pool.specs.Blocks.{poolOctets}
+use Rattle.pool.specs.Octets.{poolOctets}
 use Rattle.lane.specs.declared.Settings.{Settings}
 use Rattle.intake.specs.declared.State.{State}
 use Rattle.intake.specs.declared.Answer.{Answer}

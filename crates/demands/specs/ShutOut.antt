@@ -6,8 +6,8 @@ use mathlib.Core.Bool.{true, cond}
 use mathlib.Core.List.{List, [], _∷_}
 use mathlib.Core.Option.{Option, none, some}
 use Rattle.octets.specs.Output.{put}
-use Rattle.packet.specs.Reading.{reading}
-use Rattle.record.specs.Told.{octetsOf}
+use Rattle.reading.specs.Reading.{reading}
+use Rattle.record.specs.Record.{recordOctets}
 use Rattle.lane.specs.declared.Lane.{Lane}
 use Rattle.intake.specs.declared.Answer.{Answer}
 use Rattle.intake.specs.declared.Answer.the-variants.{Refused, Repeat, Stray, Held, Unit}
@@ -109,7 +109,7 @@ pub record MakesUpMissing (n : AnyIntake) : Type 0 where
 -- ---- a made-up credit: some closing leaves another record than the grouping rule gives for the packets that it had accepted
 abbrev pub creditBy : Past → List ℕ → Option (List ℕ)
 creditBy shut out = none
-creditBy (since settings packets) out = some (put out 0 (octetsOf (credit settings packets)))
+creditBy (since settings packets) out = some (put out 0 (recordOctets (credit settings packets)))
 
 pub record MakesUpCredit (n : AnyIntake) : Type 0 where
   pub start : Start

@@ -3,10 +3,10 @@
 use Prim.Native.Nat.{ℕ, _+_, _/_, _%_}
 use mathlib.Core.Bool.{false}
 use mathlib.Core.List.{List, [], _∷_}
-use Rattle.packet.specs.Reading.{reading, content}
+use Rattle.reading.specs.Reading.{reading, content}
 use Rattle.packet.specs.Told.{told}
 use Rattle.packet.specs.declared.Packet.the-variants.{Space, Encapsulation, Refused}
-use Rattle.pool.specs.Blocks.{poolOctets}
+use Rattle.pool.specs.Octets.{poolOctets}
 use Rattle.intake.specs.declared.Answer.{Answer}
 use Rattle.intake.specs.declared.Answer.the-variants.{Repeat, Unit}
 use Rattle.intake.specs.After.{taking}

@@ -7,13 +7,12 @@ use native.Mathlib.Omega.{arith}
 use lib.ListN.{length, length-append}
 use Rattle.octets.specs.Output.{put, putIfFits}
 use Rattle.octets.proofs.Puts.{nothing, then-put}
-use Rattle.pool.specs.Blocks.{poolOctets}
-use Rattle.pool.specs.Octets.{storedIfFits, gatheredIfFits}
+use Rattle.pool.specs.Octets.{poolOctets, storedIfFits, gatheredIfFits}
 use Rattle.pool.proofs.Guards.{is-stored, is-gathered}
 use Rattle.pool.proofs.InBlocks.{gathered-at-most}
 use Rattle.lane.specs.declared.Lane.{Lane}
-use Rattle.lane.specs.declared.Added.{Added}
-use Rattle.lane.specs.declared.Step.the-variants as step
+use Rattle.grouping.specs.declared.Added.{Added}
+use Rattle.grouping.specs.declared.Step.the-variants as step
 use Rattle.intake.specs.After.{grown, groupOf, poolAfter, outAfter}
 use Rattle.intake.specs.Ready.{Holds, Ends}
 

@@ -1,6 +1,6 @@
 -- A packet's step is ready to be carried out: it refuses, or the test for 24 has passed and its plan says so. And what is carried out is what
 -- the call promises, since only an accepted packet's user data is used.
-use Prim.Native.Nat.{ℕ, _+_, _≤_, _<_, max}
+use Prim.Native.Nat.{ℕ, _+_, _≤_, _<_}
 use Prim.{tt}
 use mathlib.Core.Path.{_≡_, refl, sym, ap, _∙_}
 use mathlib.Core.Bool.{Bool, true, false}
@@ -10,18 +10,18 @@ use lib.Dec.{leb}
 use lib.ListN.{length, drop, List·getD-eq-default}
 use lib.Seq.{set-out}
 use Rattle.octets.proofs.Order.{either}
-use Rattle.pool.specs.Blocks.{blocksFor}
 use Rattle.lane.specs.declared.Lane.{Lane}
-use Rattle.lane.specs.declared.Plan.{Plan}
-use Rattle.lane.specs.declared.Step.{Step}
-use Rattle.lane.specs.declared.Step.the-variants as step
-use Rattle.lane.specs.Lane.{closed, fine}
-use Rattle.lane.specs.Plans.{packetPlan}
-use Rattle.lane.specs.Steps.{laneAfter}
-use Rattle.lane.specs.Packets.{fault, userOctets}
-use Rattle.lane.proofs.Accepted.{accepted-data}
-use Rattle.lane.proofs.Planned.{of-either, Planned, planned, held-most}
-use Rattle.lane.proofs.Planned as plan
+use Rattle.lane.proofs.Fine.{held-most}
+use Rattle.grouping.specs.declared.Plan.{Plan}
+use Rattle.grouping.specs.declared.Step.{Step}
+use Rattle.grouping.specs.declared.Step.the-variants as step
+use Rattle.lane.specs.Lane.{closed, need, holding, fine}
+use Rattle.grouping.specs.Plans.{packetPlan}
+use Rattle.grouping.specs.Steps.{laneAfter}
+use Rattle.grouping.specs.Packets.{fault, userOctets}
+use Rattle.grouping.proofs.Accepted.{accepted-data}
+use Rattle.grouping.proofs.Planned.{of-either, Planned, planned}
+use Rattle.grouping.proofs.Planned as plan
 use Rattle.intake.specs.declared.State.{State}
 use Rattle.intake.specs.declared.Answer.{Answer}
 use Rattle.intake.specs.declared.Answered.{Answered}
@@ -43,7 +43,7 @@ module _ (s : State) (i : ℕ) (p : List ℕ) (octets room : ℕ) where
   unfolding packetStep
   step-24 h = simp h
 
-  is-step : unsound s octets ≡ false → settle (others (s .lanes) i) (packetPlan (laneAt s i) p room) ≡ packetStep s i p octets room
+  is-step : unsound s octets ≡ false → settle (laneAt s i) (others (s .lanes) i) (packetPlan (laneAt s i) p room) ≡ packetStep s i p octets room
   unfolding packetStep
   is-step passed = simp passed
 
@@ -52,7 +52,7 @@ module _ (s : State) (i : ℕ) (p : List ℕ) (octets room : ℕ) where
     pub refused-24 : b ≡ true → step.Refuse 24 ≡ packetStep s i p octets room
     refused-24 h = sym (step-24 (sym eb ∙ h))
 
-    pub settled-step : b ≡ false → (pl : Plan) → pl ≡ packetPlan l p room → (d : Step) → d ≡ settle (others (s .lanes) i) pl → d ≡ packetStep s i p octets room
+    pub settled-step : b ≡ false → (pl : Plan) → pl ≡ packetPlan l p room → (d : Step) → d ≡ settle l (others (s .lanes) i) pl → d ≡ packetStep s i p octets room
     settled-step h pl ep d ed = ed ∙ rw (ep, el) (is-step (sym eb ∙ h))
 
 -- ---- what is carried out
@@ -77,7 +77,7 @@ module _ (s : State) (eight : length (s .lanes) ≡ 8) (i : ℕ) (p : List ℕ) 
     small : own .opened ≡ true → i < 8
     small = opened-small (s .lanes) eight i
 
-    ready : {d : Plan} → Planned own p room d → Ready i own (settle (others (s .lanes) i) d) (length (userPart own p)) octets room
+    ready : {d : Plan} → Planned own p room d → Ready i own (settle own (others (s .lanes) i) d) (length (userPart own p)) octets room
     unfolding settle laneAfter
     ready (plan.refuses n few h) = tt
     ready plan.repeats = tt
@@ -85,13 +85,13 @@ module _ (s : State) (eight : length (s .lanes) ≡ 8) (i : ℕ) (p : List ℕ) 
     ready (plan.ends a on n o f g e h) =
         ((small o, g), omega (arith, e, part-octets f), h, held-most own (good) .1)
     ready (plan.holds a on n o f g e h t) =
-        of-either (λ (d : Step). Ready i own d (length (userPart own p)) octets room) (leb (max (blocksFor n) (own .settings .share) + others (s .lanes) i) 64)
+        of-either (λ (d : Step). Ready i own d (length (userPart own p)) octets room) (leb (need (holding own n) + others (s .lanes) i) 64)
         (λ r. ((small o, g), omega (arith, e, part-octets f), held-most (laneAfter own (step.Hold a on n)) g .1, held-most own (good) .1, then-sound s octets passed .1))
         (λ r. tt)
 
     -- the same part of the pool and of the output is written with either
     same-pool : {d : Plan} (pool : List ℕ) → Planned own p room d
-        → poolAfter (s .marks) i own (settle (others (s .lanes) i) d) (userPart own p) pool ≡ poolAfter (s .marks) i own (settle (others (s .lanes) i) d) (userOf s i p) pool
+        → poolAfter (s .marks) i own (settle own (others (s .lanes) i) d) (userPart own p) pool ≡ poolAfter (s .marks) i own (settle own (others (s .lanes) i) d) (userOf s i p) pool
     unfolding settle poolAfter
     same-pool pool (plan.refuses n few h) = refl
     same-pool pool plan.repeats = refl
@@ -100,7 +100,7 @@ module _ (s : State) (eight : length (s .lanes) ≡ 8) (i : ℕ) (p : List ℕ) 
     same-pool pool (plan.holds a on n o f g e h t) = rw (part-is f)
 
     same-out : {d : Plan} (pool out : List ℕ) → Planned own p room d
-        → outAfter (s .marks) i own (settle (others (s .lanes) i) d) (userPart own p) pool out ≡ outAfter (s .marks) i own (settle (others (s .lanes) i) d) (userOf s i p) pool out
+        → outAfter (s .marks) i own (settle own (others (s .lanes) i) d) (userPart own p) pool out ≡ outAfter (s .marks) i own (settle own (others (s .lanes) i) d) (userOf s i p) pool out
     unfolding settle outAfter
     same-out pool out (plan.refuses n few h) = refl
     same-out pool out plan.repeats = refl
@@ -108,7 +108,7 @@ module _ (s : State) (eight : length (s .lanes) ≡ 8) (i : ℕ) (p : List ℕ) 
     same-out pool out (plan.ends a on n o f g e h) = rw (part-is f)
     same-out pool out (plan.holds a on n o f g e h t) =
         of-either (λ (d : Step). outAfter (s .marks) i own d (userPart own p) pool out ≡ outAfter (s .marks) i own d (userOf s i p) pool out)
-        (leb (max (blocksFor n) (own .settings .share) + others (s .lanes) i) 64) (λ r. refl) (λ r. refl)
+        (leb (need (holding own n) + others (s .lanes) i) 64) (λ r. refl) (λ r. refl)
 
   -- so of every step
   ready-any : Ready i own packet (length (userPart own p)) octets room

@@ -10,9 +10,9 @@ use lib.Dec.{leb, eqb}
 use lib.ListN.{length, getD, List·getD-eq-default}
 use Rattle.octets.proofs.Order.{both}
 use Rattle.record.specs.Record.{possible}
-use Rattle.pool.specs.Blocks.{blocksFor}
-use Rattle.pool.specs.Blocks.{poolOctets}
-use Rattle.pool.specs.Matching.{matching}
+use Rattle.marks.specs.Blocks.{blocksFor}
+use Rattle.pool.specs.Octets.{poolOctets}
+use Rattle.marks.specs.Matching.{matching}
 use Rattle.lane.specs.declared.Lane.{Lane}
 use Rattle.octets.specs.Octets.{one}
 use Rattle.lane.specs.Lane.{closed, held, illegal, talliesPossible, fine}

@@ -5,11 +5,11 @@ use mathlib.Core.Bool.{Bool}
 use mathlib.Core.List.{List}
 use lib.Seq.{set-getD}
 use Rattle.lane.specs.declared.Lane.{Lane}
-use Rattle.lane.specs.declared.Added.{Added}
-use Rattle.lane.specs.declared.Step.{Step}
-use Rattle.lane.specs.declared.Step.the-variants as step
+use Rattle.grouping.specs.declared.Added.{Added}
+use Rattle.grouping.specs.declared.Step.{Step}
+use Rattle.grouping.specs.declared.Step.the-variants as step
 use Rattle.lane.specs.Lane.{closed}
-use Rattle.lane.specs.Steps.{laneAfter}
+use Rattle.grouping.specs.Steps.{laneAfter}
 use Rattle.intake.specs.declared.State.{State}
 use Rattle.intake.specs.State.{laneAt}
 use Rattle.intake.specs.After.{withLane, marksAfter, poolAfter, outAfter}

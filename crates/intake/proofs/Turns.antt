@@ -7,7 +7,7 @@ use native.Mathlib.Numerals.{add-one}
 use native.Mathlib.Omega.{arith}
 use lib.ListN.{length, getD, set, take, drop, replicate, length-set, drop-of-length-le}
 use lib.Seq.{drop-cons, take-all, take-suc, take-suc-set, set-getD, getD-set-other}
-use Rattle.pool.specs.Blocks.{blocksFor}
+use Rattle.marks.specs.Blocks.{blocksFor}
 use Rattle.lane.specs.declared.Lane.{Lane}
 use Rattle.lane.specs.Lane.{closed, held, need, fine}
 use Rattle.intake.specs.State.{total, every}

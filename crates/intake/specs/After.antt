@@ -4,17 +4,16 @@ use mathlib.Core.Bool.{Bool, true, false, cond}
 use mathlib.Core.List.{List, [], _++_}
 use lib.ListN.{length, set}
 use Rattle.octets.specs.Output.{unlessRefused, put, outputAfter}
-use Rattle.record.specs.Told.{octetsOf}
-use Rattle.record.specs.declared.Record.{Record}
-use Rattle.pool.specs.Blocks.{mark, blocksFor, granted, freed}
+use Rattle.record.specs.Record.{recordOctets}
+use Rattle.marks.specs.Blocks.{mark, blocksFor, granted, freed}
 use Rattle.pool.specs.Octets.{stored, gathered}
 use Rattle.lane.specs.declared.Settings.{Settings}
 use Rattle.lane.specs.declared.Lane.{Lane}
-use Rattle.lane.specs.declared.Step.{Step}
-use Rattle.lane.specs.declared.Step.the-variants as step
-use Rattle.lane.specs.Lane.{closed, held, brokenWithGroup}
-use Rattle.lane.specs.Packets.{userData}
-use Rattle.lane.specs.Steps.{laneAfter}
+use Rattle.grouping.specs.declared.Step.{Step}
+use Rattle.grouping.specs.declared.Step.the-variants as step
+use Rattle.lane.specs.Lane.{closed, held, creditOf}
+use Rattle.grouping.specs.Packets.{userData}
+use Rattle.grouping.specs.Steps.{laneAfter}
 use Rattle.intake.specs.declared.State.{State}
 use Rattle.intake.specs.declared.Changed.{Changed}
 use Rattle.intake.specs.declared.Answer.{Answer}
@@ -50,12 +49,8 @@ releasedFrom marks i l = cond (l .grouped) (freed marks i) marks
 unfoldable pub closing : State → ℕ → ℕ → ℕ → Changed
 closing s i size room = changed (closingRefusal s i size room) (withLane s i closed (releasedFrom (s .marks) i (laneAt s i))) s
 
-abbrev pub creditOf : Lane → Record
-creditOf l =
-    record { station = l .settings .station; apid = l .settings .apid; units = l .units; packets = l .packets; missing = l .missing; broken = brokenWithGroup l }
-
 unfoldable pub closingOut : State → ℕ → ℕ → List ℕ → List ℕ
-closingOut s i size out = outputAfter (closingRefusal s i size (length out)) (octetsOf (creditOf (laneAt s i))) out
+closingOut s i size out = outputAfter (closingRefusal s i size (length out)) (recordOctets (creditOf (laneAt s i))) out
 
 -- ---- a packet
 -- a group of n octets takes the blocks that it lacks, after a given-up group's are freed

@@ -6,12 +6,13 @@ use lib.Dec.{ltb, leb}
 use Rattle.octets.specs.Order.{Test, _gives_, first}
 use Rattle.record.specs.Record.{recordSize}
 use Rattle.lane.specs.declared.Settings.{Settings}
-use Rattle.lane.specs.declared.Step.{Step}
-use Rattle.lane.specs.declared.Step.the-variants.{Refuse}
-use Rattle.lane.specs.declared.Plan.{Plan}
-use Rattle.lane.specs.declared.Plan.the-variants.{Sure, Ask}
-use Rattle.lane.specs.Lane.{illegal, talliesPossible}
-use Rattle.lane.specs.Plans.{packetPlan}
+use Rattle.lane.specs.declared.Lane.{Lane}
+use Rattle.grouping.specs.declared.Step.{Step}
+use Rattle.grouping.specs.declared.Step.the-variants.{Refuse}
+use Rattle.grouping.specs.declared.Plan.{Plan}
+use Rattle.grouping.specs.declared.Plan.the-variants.{Sure, Ask}
+use Rattle.lane.specs.Lane.{need, holding, illegal, talliesPossible}
+use Rattle.grouping.specs.Plans.{packetPlan}
 use Rattle.intake.specs.declared.State.{State}
 use Rattle.intake.specs.State.{laneAt, total, others, unsound}
 
@@ -40,13 +41,13 @@ closingTests s i size room =
 unfoldable pub closingRefusal : State → ℕ → ℕ → ℕ → ℕ
 closingRefusal s i size room = first 0 (closingTests s i size room)
 
--- a plan that asks for room gets it where that and the other lanes' sum are at most 64
-unfoldable pub settle : ℕ → Plan → Step
-settle sum (Sure step) = step
-settle sum (Ask blocks refusal step) = cond (leb (blocks + sum) 64) step (Refuse refusal)
+-- a plan that asks for room in lane l gets it where what the lane then counts for and the other lanes' sum are at most 64
+unfoldable pub settle : Lane → ℕ → Plan → Step
+settle l sum (Sure step) = step
+settle l sum (Ask n refusal step) = cond (leb (need (holding l n) + sum) 64) step (Refuse refusal)
 
 -- Packet to a lane: 24, 11, reading, 12, 13, 14, 15, 16, 17, the repeat test, 18, 19, 20
 unfoldable pub packetStep : State → ℕ → List ℕ → ℕ → ℕ → Step
 packetStep s i packet size room =
-    first (settle (others (s .lanes) i) (packetPlan (laneAt s i) packet room))
+    first (settle (laneAt s i) (others (s .lanes) i) (packetPlan (laneAt s i) packet room))
     ((unsound s size gives Refuse 24) ∷ [])

@@ -3,13 +3,13 @@ use Prim.Native.Nat.{ℕ, _+_, _≤_, _<_}
 use Prim.{Unit}
 use mathlib.Core.Path.{_≡_}
 use mathlib.Core.Bool.{Bool, true, false, cond}
-use Rattle.pool.specs.Blocks.{poolOctets}
+use Rattle.pool.specs.Octets.{poolOctets}
 use Rattle.lane.specs.declared.Lane.{Lane}
-use Rattle.lane.specs.declared.Added.{Added}
-use Rattle.lane.specs.declared.Step.{Step}
-use Rattle.lane.specs.declared.Step.the-variants as step
+use Rattle.grouping.specs.declared.Added.{Added}
+use Rattle.grouping.specs.declared.Step.{Step}
+use Rattle.grouping.specs.declared.Step.the-variants as step
 use Rattle.lane.specs.Lane.{fine}
-use Rattle.lane.specs.Steps.{counted}
+use Rattle.grouping.specs.Steps.{counted}
 
 -- the lane by its number is one of eight, and is fine after the packet is counted
 abbrev pub Counts : ℕ → Lane → Added → ℕ → Bool → ℕ → Type 0

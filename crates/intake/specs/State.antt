@@ -4,8 +4,9 @@ use mathlib.Core.Bool.{Bool, true, not, _&&_}
 use mathlib.Core.List.{List, [], _∷_, map}
 use lib.ListN.{getD, set, replicate}
 use lib.Dec.{eqb, leb}
-use Rattle.pool.specs.Blocks.{poolOctets, free}
-use Rattle.pool.specs.Matching.{matching}
+use Rattle.marks.specs.Blocks.{free}
+use Rattle.marks.specs.Matching.{matching}
+use Rattle.pool.specs.Octets.{poolOctets}
 use Rattle.lane.specs.declared.Lane.{Lane}
 use Rattle.lane.specs.Lane.{closed, held, need, fine}
 use Rattle.intake.specs.declared.State.{State}

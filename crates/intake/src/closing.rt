@@ -2,19 +2,12 @@
 ghost use mathlib.Core.Path.{_≡_};
 ghost use mathlib.Core.Bool.{true};
 ghost use Prim.Native.Nat.{_<_};
-ghost use Rattle.octets.specs.Octets.{one};
-ghost use Rattle.lane.specs.Lane.{fine};
-ghost use Rattle.intake.specs.After.{creditOf, releasedFrom};
+ghost use Rattle.lane.specs.Lane.{creditOf, fine};
+ghost use Rattle.intake.specs.After.{releasedFrom};
 use lane::Lane;
-use pool::free_blocks;
+use marks::free_blocks;
+use numbers::one_if;
 use record::Record;
-
-// 1 for yes, 0 for no.
-pub(crate) fn one_if(b: bool) -> u32
-    ensures { λ r. ⌜ r ≡ one b ⌝ }
-{
-    if b { 1 } else { 0 }
-}
 
 // What the lane's station is credited with, an open group counted as broken.
 pub(crate) fn credit_of(l: Lane) -> Record
@@ -27,7 +20,7 @@ pub(crate) fn credit_of(l: Lane) -> Record
         units: l.units,
         packets: l.packets,
         missing: l.missing,
-        broken: l.broken + one_if(l.grouped),
+        broken: l.broken + one_if(l.grouped) as u32,
     }
 }
 

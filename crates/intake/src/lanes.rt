@@ -2,7 +2,7 @@
 ghost use mathlib.Core.Path.{_≡_};
 ghost use Prim.Native.Nat.{_≤_};
 ghost use lib.ListN.{length, getD, set};
-ghost use Rattle.pool.specs.Blocks.{blocksFor};
+ghost use Rattle.marks.specs.Blocks.{blocksFor};
 ghost use Rattle.lane.specs.Lane.{closed};
 ghost use Rattle.intake.specs.State.{total};
 ghost use Rattle.intake.specs.After.{openedWith, withLane};
@@ -11,7 +11,7 @@ use lane::CLOSED;
 use lane::Lane;
 use lane::Settings;
 use lane::need_of;
-use pool::blocks_for;
+use marks::blocks_for;
 
 // How many lanes there are. The array that is passed whole tells its length, which a field does not.
 pub(crate) fn count_of(lanes: [Lane; 8]) -> usize

@@ -11,22 +11,22 @@ ghost use Rattle.intake.specs.Told.{told, telling};
 ghost use Rattle.intake.specs.After.{refusedChange, opening, closing, closingOut, taking, takingPool, takingOut};
 use closing::credit_of;
 use closing::release;
+use grouping::Step;
+use grouping::plan_packet;
 use lane::CLOSED;
 use lane::Lane;
 use lane::Settings;
-use lane::Step;
 use lane::is_fine;
 use lane::is_illegal;
 use lane::need_of;
-use lane::plan_packet;
 use lanes::blocks_of;
 use lanes::count_of;
 use lanes::lane_at;
 use lanes::opened_with;
 use lanes::total_of;
 use lanes::with_lane;
+use marks::marks_match;
 use pool::POOL_OCTETS;
-use pool::marks_match;
 use record::RecordWritten;
 use record::write_record;
 use taking::answer_of;
@@ -169,7 +169,7 @@ fn step_of(s: State, l: Lane, lane: usize, octets: &[u8], size: usize, room: usi
         return Step::Refuse(24);
     }
     let lanes = s.lanes;
-    settled(lanes, lane, plan_packet(l, octets, room))
+    settled(lanes, lane, l, plan_packet(l, octets, room))
 }
 
 // Gives a packet to a lane. The state is copied once, and the lane and the marks are changed in their places.

@@ -6,30 +6,31 @@ ghost use Prim.Native.Nat.{_+_, _≤_, _<_};
 ghost use lib.ListN.{length, drop};
 ghost use lib.Dec.{leb};
 ghost use Rattle.octets.specs.Output.{put as puts};
-ghost use Rattle.pool.specs.Blocks.{poolOctets};
-ghost use Rattle.lane.specs.declared.Step.the-variants.{Stray, Hold, Unit};
+ghost use Rattle.pool.specs.Octets.{poolOctets};
+ghost use Rattle.grouping.specs.declared.Step.the-variants.{Stray, Hold, Unit};
 ghost use Rattle.lane.specs.Lane.{fine};
-ghost use Rattle.lane.specs.Steps.{counted, laneAfter};
+ghost use Rattle.grouping.specs.Steps.{counted, laneAfter};
 ghost use Rattle.intake.specs.State.{others};
 ghost use Rattle.intake.specs.Calls.{settle};
 ghost use Rattle.intake.specs.After.{grown, groupOf, answerOf, marksAfter, poolAfter, outAfter};
 ghost use Rattle.intake.specs.Ready.{Counts, Holds, Ends, Ready};
 use crate::Answer;
 use crate::MOST;
-use crate::closing::one_if;
 use crate::closing::release;
 use crate::lanes::total_of;
 use crate::lanes::with_one;
-use lane::Added;
+use grouping::Added;
+use grouping::Plan;
+use grouping::Step;
 use lane::CLOSED;
 use lane::Lane;
-use lane::Plan;
-use lane::Step;
+use lane::need_with;
+use marks::blocks_for;
+use marks::grant_blocks;
+use numbers::one_if;
 use octets::put_octets;
 use packet::SPACE_HEADER;
-use pool::blocks_for;
 use pool::gather_octets;
-use pool::grant_blocks;
 use pool::store_octets;
 
 // What the other lanes hold or are promised.
@@ -39,17 +40,17 @@ fn others_of(lanes: [Lane; 8], i: usize) -> usize
     total_of(with_one(lanes, i, CLOSED))
 }
 
-// The step that a plan comes to beside the other lanes.
-pub(crate) fn settled(lanes: [Lane; 8], i: usize, plan: Plan) -> Step
-    ensures { λ r. ⌜ r ≡ settle (others lanes i) plan ⌝ }
+// The step that a plan of lane l comes to beside the other lanes.
+pub(crate) fn settled(lanes: [Lane; 8], i: usize, l: Lane, plan: Plan) -> Step
+    ensures { λ r. ⌜ r ≡ settle l (others lanes i) plan ⌝ }
 {
     match plan {
         Plan::Sure(step) => step,
         Plan::Ask {
-            blocks,
+            octets,
             refusal,
             step,
-        } => if is_room(blocks, others_of(lanes, i)) {
+        } => if is_room(need_with(l, octets), others_of(lanes, i)) {
             step
         } else {
             Step::Refuse(refusal)
@@ -92,7 +93,7 @@ fn count_in(l: Lane, a: Added, units: u32, grouped: bool, octets: u16) -> Lane
         units: l.units + units,
         packets: l.packets + 1,
         missing: l.missing + a.missing as u32,
-        broken: l.broken + one_if(a.broke),
+        broken: l.broken + one_if(a.broke) as u32,
         last: a.count,
         grouped,
         octets,

@@ -6,6 +6,7 @@ use native.Mathlib.Omega.{arith}
 use borrow.Author.Tests.{leb-true, le-leb, ltb-false, le-ltb, eqb-true, eq-eqb}
 use lib.Dec.{eqb, leb, ltb}
 use Rattle.octets.proofs.Order.{either, neither, both}
+use Rattle.marks.specs.Blocks.{blocksFor}
 use Rattle.record.specs.Record.{mostMissing, possible}
 use Rattle.lane.specs.declared.Settings.{Settings}
 use Rattle.lane.specs.declared.Lane.{Lane}
@@ -127,3 +128,18 @@ fine-is l h =
     not-not : (b : Bool) → not b ≡ false → b ≡ true
     not-not true z = refl
     not-not false z = absurd (true≢false z)
+
+-- ---- a group fits the pool
+pub fits-pool : (n : ℕ) → blocksFor n ≤ 64 → n ≤ 16384
+unfolding blocksFor
+fits-pool n h = omega arith
+
+pub none-held : blocksFor 0 ≡ 0
+unfolding blocksFor
+none-held = refl
+
+pub held-most : (l : Lane) → fine l ≡ true → (held l ≤ 64) × (l .octets ≤ 16384)
+held-most l h =
+    let is : Fine l = is-fine l h in
+    let few : held l ≤ 64 = either (l .opened) (λ o. omega (arith, is .within, is .legal o .cap)) (λ o. rw (is .nothing (is .shut o)) (omega (arith, none-held))) in
+    (few, fits-pool (l .octets) few)

@@ -6,8 +6,9 @@ use native.Mathlib.Omega.{arith}
 use lib.Dec.{eqb, leb}
 use borrow.Author.Tests.{le-leb, lt-leb, ne-eqb}
 use Rattle.octets.specs.Octets.{one}
-use Rattle.pool.specs.Blocks.{blocksFor}
+use Rattle.marks.specs.Blocks.{blocksFor}
 use Rattle.record.specs.Record.{possible}
+use Rattle.record.specs.declared.Record.{Record}
 use Rattle.lane.specs.declared.Lane.{Lane}
 use Rattle.lane.specs.Lane.{held, illegal, talliesPossible, fine}
 use Rattle.lane.proofs.Tallied.{more-broken}
@@ -22,17 +23,21 @@ last-first false group true t = refl
 last-first false group false t = refl
 
 module _ (l : Lane) where
+  -- the tallies, without the open group
+  abbrev counted : Record
+  counted = record { station = l .settings .station; apid = l .settings .apid; units = l .units; packets = l .packets; missing = l .missing; broken = l .broken }
+
   abbrev tally : Bool
-  tally = possible (l .settings .apid) (l .units) (l .packets) (l .missing) (l .broken)
+  tally = possible counted
 
   -- ---- the tallies
   pub too-few-packets : (g : ℕ) → g ≡ one (l .grouped) → l .packets < l .units + l .broken + g → false ≡ talliesPossible l
   unfolding talliesPossible
-  too-few-packets g e h = rw (more-broken (l .settings .apid) (l .units) (l .packets) (l .missing) (l .broken) (one (l .grouped)), ← e, lt-leb _ _ h) (sym (and-false tally))
+  too-few-packets g e h = rw (more-broken counted (one (l .grouped)), ← e, lt-leb _ _ h) (sym (and-false tally))
 
   pub enough-packets : (g : ℕ) → g ≡ one (l .grouped) → l .units + l .broken + g ≤ l .packets → (b : Bool) → b ≡ tally → b ≡ talliesPossible l
   unfolding talliesPossible
-  enough-packets g e h b eb = rw (more-broken (l .settings .apid) (l .units) (l .packets) (l .missing) (l .broken) (one (l .grouped)), ← e, le-leb _ _ h) (eb ∙ sym (and-true tally))
+  enough-packets g e h b eb = rw (more-broken counted (one (l .grouped)), ← e, le-leb _ _ h) (eb ∙ sym (and-true tally))
 
   -- ---- the group
   abbrev within : Bool

@@ -1,10 +1,11 @@
 -- A lane: its settings, its tallies, the count of the last accepted packet (last), and its open group, if it has one, of some octets.
 use Prim.Native.Nat.{ℕ, _+_, max}
-use mathlib.Core.Bool.{Bool, false, cond, not, _&&_, _||_}
+use mathlib.Core.Bool.{Bool, true, false, cond, not, _&&_, _||_}
 use lib.Dec.{eqb, ltb, leb}
 use Rattle.octets.specs.Octets.{one}
-use Rattle.pool.specs.Blocks.{blocksFor}
+use Rattle.marks.specs.Blocks.{blocksFor}
 use Rattle.record.specs.Record.{possible}
+use Rattle.record.specs.declared.Record.{Record}
 use Rattle.lane.specs.declared.Settings.{Settings}
 use Rattle.lane.specs.declared.Lane.{Lane}
 
@@ -23,6 +24,11 @@ held l = blocksFor (l .octets)
 unfoldable pub need : Lane → ℕ
 need l = cond (l .opened) (max (held l) (l .settings .share)) 0
 
+-- the lane with an open group of n octets
+abbrev pub holding : Lane → ℕ → Lane
+holding l n =
+    record { opened = l .opened; settings = l .settings; units = l .units; packets = l .packets; missing = l .missing; broken = l .broken; last = l .last; grouped = true; octets = n }
+
 -- APID over 2046, secondary length over 63, share over cap, or cap over 64
 unfoldable pub illegal : Settings → Bool
 illegal s = ltb 2046 (s .apid) || ltb 63 (s .secondary) || ltb (s .cap) (s .share) || ltb 64 (s .cap)
@@ -30,9 +36,14 @@ illegal s = ltb 2046 (s .apid) || ltb 63 (s .secondary) || ltb (s .cap) (s .shar
 abbrev pub brokenWithGroup : Lane → ℕ
 brokenWithGroup l = l .broken + one (l .grouped)
 
--- the tallies, counting an open group as broken, form a possible record
+-- what the lane's station is credited with: the tallies, counting an open group as broken
+abbrev pub creditOf : Lane → Record
+creditOf l =
+    record { station = l .settings .station; apid = l .settings .apid; units = l .units; packets = l .packets; missing = l .missing; broken = brokenWithGroup l }
+
+-- they form a possible record
 unfoldable pub talliesPossible : Lane → Bool
-talliesPossible l = possible (l .settings .apid) (l .units) (l .packets) (l .missing) (brokenWithGroup l)
+talliesPossible l = possible (creditOf l)
 
 -- what a sound state asks of each lane by itself: an open lane's settings are legal, what it holds is within its cap and nothing is held without
 -- a group, a closed lane has none, last is at most 16,383, and the tallies are possible

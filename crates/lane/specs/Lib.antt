@@ -1,6 +1,1 @@
 pub mod Lane
-pub mod Packets
-pub mod Grouping
-pub mod Plans
-pub mod Steps
-pub mod Faults

@@ -1,21 +1,12 @@
-// One lane: its settings, tallies and group, and what a packet does to it, decided from the lane alone. Whether the other lanes leave room is
-// asked by a plan and answered elsewhere.
-mod grouping;
-mod packets;
-
+// One lane by itself: its settings, tallies and group, when it is fine, and what it counts for in the pool.
 ghost use mathlib.Core.Path.{_≡_};
 ghost use mathlib.Core.Bool.{_&&_, _||_};
-ghost use Prim.Native.Nat.{_≤_, max};
+ghost use Prim.Native.Nat.{_≤_};
 ghost use lib.Dec.{eqb, leb};
-ghost use Rattle.octets.specs.Octets.{one};
-ghost use Rattle.lane.specs.Lane.{held, need, illegal, talliesPossible, fine};
-ghost use Rattle.lane.specs.Plans.{refusing, packetPlan};
-use grouping::plan_accepted;
-use packet::Packet;
-use packet::read_packet;
-use packets::fault_of;
-use packets::other_refusal;
-use pool::blocks_for;
+ghost use Rattle.lane.specs.Lane.{held, need, holding, illegal, talliesPossible, fine};
+use marks::blocks_for;
+use numbers::larger;
+use numbers::one_if;
 use record::Record;
 use record::is_possible;
 
@@ -43,41 +34,6 @@ pub struct Lane {
     pub octets: u16,
 }
 
-// What an accepted packet adds to the tallies: packets missing before it, whether an open group is given up, and its count.
-pub struct Added {
-    pub missing: u16,
-    pub broke: bool,
-    pub count: u16,
-}
-
-// What a packet does. `joins` says that the open group goes on; octets are those of the group or unit with the user data.
-pub enum Step {
-    Refuse(u8),
-    Repeat,
-    Stray(Added),
-    Hold {
-        added: Added,
-        joins: bool,
-        octets: usize,
-    },
-    Unit {
-        added: Added,
-        joins: bool,
-        octets: usize,
-    },
-}
-
-// A step that is settled whatever the other lanes hold; or one that is taken if there is room for so many blocks beside theirs, and else
-// refused.
-pub enum Plan {
-    Sure(Step),
-    Ask {
-        blocks: usize,
-        refusal: u8,
-        step: Step,
-    },
-}
-
 // A lane as at the fresh start.
 pub const CLOSED: Lane = Lane {
     opened: false,
@@ -97,11 +53,15 @@ pub const CLOSED: Lane = Lane {
     octets: 0,
 };
 
-// The larger of two numbers.
-pub(crate) fn larger(a: usize, b: usize) -> usize
-    ensures { λ r. ⌜ r ≡ max a b ⌝ }
+// What a lane would count for in the pool with an open group of n octets.
+pub fn need_with(l: Lane, n: usize) -> usize
+    ensures { λ r. ⌜ r ≡ need (holding l n) ⌝ }
 {
-    if a < b { b } else { a }
+    if l.opened {
+        larger(blocks_for(n), l.settings.share as usize)
+    } else {
+        0
+    }
 }
 
 // What a lane counts for in the pool.
@@ -109,11 +69,7 @@ pub fn need_of(l: Lane) -> usize
     ensures { λ r. ⌜ r ≡ need l ⌝ }
     ensures { λ r. ⌜ r ≤ 256 ⌝ }
 {
-    if l.opened {
-        larger(blocks_for(l.octets as usize), l.settings.share as usize)
-    } else {
-        0
-    }
+    need_with(l, l.octets as usize)
 }
 
 // Whether settings are refused by 22.
@@ -121,13 +77,6 @@ pub fn is_illegal(s: Settings) -> bool
     ensures { λ r. ⌜ r ≡ illegal s ⌝ }
 {
     (2046 < s.apid) | (63 < s.secondary) | (s.cap < s.share) | (64 < s.cap)
-}
-
-// 1 for yes, 0 for no.
-fn one_if(b: bool) -> u64
-    ensures { λ r. ⌜ r ≡ one b ⌝ }
-{
-    if b { 1 } else { 0 }
 }
 
 // Whether the tallies, counting an open group as broken, form a possible record. The sum is made in 64 bits, where it can't wrap.
@@ -187,42 +136,4 @@ pub fn is_fine(l: Lane) -> bool
         return false;
     }
     is_kept(l)
-}
-
-fn refuse(number: u8) -> Plan
-    ensures { λ r. ⌜ r ≡ refusing number ⌝ }
-{
-    Plan::Sure(Step::Refuse(number))
-}
-
-// What a packet does, where the output has room for so many octets.
-pub fn plan_packet(l: Lane, octets: &[u8], room: usize) -> Plan
-    ensures { λ r. ⌜ r ≡ packetPlan l (now (octets .entry)) room ⌝ }
-{
-    if !l.opened {
-        return refuse(11);
-    }
-    let p = read_packet(octets);
-    let Packet::Space {
-        packet_type: kind,
-        secondary,
-        apid,
-        flags,
-        count,
-        octets: size,
-    } = p
-    else {
-        return refuse(other_refusal(p, octets.len()));
-    };
-    let number = fault_of(l.settings, octets.len(), kind, secondary, apid, size);
-    if number != 0 {
-        return refuse(number);
-    }
-    plan_accepted(
-        l,
-        flags,
-        count,
-        size as usize - l.settings.secondary as usize,
-        room,
-    )
 }

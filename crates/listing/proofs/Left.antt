@@ -9,11 +9,11 @@ use lib.Dec.{eqb}
 use lib.ListN.{length, drop}
 use Rattle.octets.proofs.Order.{either}
 use Rattle.packet.specs.Space.{version}
-use Rattle.packet.specs.Reading.{refusal, reading, size}
+use Rattle.reading.specs.Reading.{refusal, reading, size}
 use Rattle.packet.specs.Told.{told, numberOf, sizeOf}
 use Rattle.packet.specs.declared.Packet.{Packet}
 use Rattle.packet.specs.declared.Packet.the-variants.{Space, Encapsulation, Refused}
-use Rattle.packet.proofs.Answers.{Says, says, number-read, size-read}
+use Rattle.reading.proofs.Answers.{Says, says, number-read, size-read}
 use Rattle.walk.specs.Walk.{placesFrom, places, end, stop}
 use Rattle.walk.proofs.Going.{Going, Turn, turned, at-end, at-refusal}
 use Rattle.listing.specs.Listing.{packetLine, packetLines, refusedLine, endLine, listing}

@@ -11,10 +11,10 @@ use lib.ListN.{length, drop, length-append, length-drop}
 use Rattle.octets.proofs.Order.{either}
 use Rattle.packet.specs.Space.{version, apid, flags, count, dataOctets}
 use Rattle.packet.specs.Encapsulation.{protocol, extension, encapHeader, encapSize}
-use Rattle.packet.specs.Reading.{refusal, size}
-use Rattle.packet.specs.Causes.{Whole, space, encapsulation}
-use Rattle.packet.proofs.Exactly.{exactly, exactly-whole, numbered}
-use Rattle.packet.proofs.Within.{HeaderIs, one, two, four, eight, header-is}
+use Rattle.reading.specs.Reading.{refusal, size}
+use Rattle.reading.specs.Causes.{Whole, space, encapsulation}
+use Rattle.reading.proofs.Exactly.{exactly, exactly-whole, numbered}
+use Rattle.reading.proofs.Within.{HeaderIs, one, two, four, eight, header-is}
 use Rattle.walk.specs.Walk.{next, places, end, stop}
 use Rattle.walk.proofs.Rises.{Run, rises}
 use Rattle.text.specs.Text.{ascii, numbers}

@@ -5,8 +5,8 @@ use native.Mathlib.Omega.{arith}
 use lib.ListN.{length, length-append}
 use Rattle.packet.specs.declared.Packet.{Packet}
 use Rattle.packet.specs.declared.Packet.the-variants.{Space, Encapsulation, Refused}
-use Rattle.packet.proofs.Exactly.{exactly, numbered}
-use Rattle.packet.proofs.Answers.{Says, part-told}
+use Rattle.reading.proofs.Exactly.{exactly, numbered}
+use Rattle.reading.proofs.Answers.{Says, part-told}
 use Rattle.text.specs.Text.{ascii, decimal, numbers}
 use Rattle.text.proofs.Short.{Small, decimal-short, numbers-short}
 use Rattle.listing.specs.Listing.{lineEnd, line, endLine}

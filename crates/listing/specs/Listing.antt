@@ -6,7 +6,7 @@ use lib.ListN.{length, drop}
 use lib.Dec.{eqb, leb}
 use Rattle.packet.specs.Space.{apid, flags, count, dataOctets}
 use Rattle.packet.specs.Encapsulation.{protocol, extension, encapHeader, encapSize}
-use Rattle.packet.specs.Reading.{isSpace}
+use Rattle.reading.specs.Reading.{isSpace}
 use Rattle.walk.specs.Walk.{places, end, stop}
 use Rattle.text.specs.Text.{ascii, decimal, numbers}
 

@@ -7,8 +7,9 @@ use mathlib.Core.Bool.{Bool, true, false, cond, not, _&&_, _||_, true≢false}
 use native.Mathlib.Omega.{arith}
 use borrow.Author.Tests.{eq-eqb, ne-eqb, eqb-true, eqb-false}
 use lib.Dec.{eqb}
-use Rattle.octets.specs.Output.{answer, unlessRefused}
-use Rattle.octets.specs.Order.{Test, _gives_, first, Because, none, holds, fails}
+use lib.ListN.{length}
+use Rattle.octets.specs.Output.{answer, leading, unlessRefused}
+use Rattle.octets.specs.Order.{Test, _gives_, first, Because, none, holds, fails, numbersOf}
 
 pub either : {A : Type 0} (b : Bool) → (b ≡ true → A) → (b ≡ false → A) → A
 either true f g = f refl
@@ -57,6 +58,23 @@ pub first-unless : (rest : ℕ) (tests : List (Test ℕ)) → Numbers tests → 
 first-unless rest [] t = refl
 first-unless rest ((true gives n) ∷ tests) t = simp (ne-eqb n 0 (λ z. omega (arith, t .0)))
 first-unless rest ((false gives n) ∷ tests) t = first-unless rest tests (t .1)
+
+-- ---- the number of what is told is what the order of the numbers gives
+pub leads-first : (otherwise : List ℕ) (tests : List (Test (List ℕ))) → leading (first otherwise tests) ≡ first (leading otherwise) (numbersOf tests)
+leads-first otherwise [] = refl
+leads-first otherwise ((true gives told) ∷ tests) = refl
+leads-first otherwise ((false gives told) ∷ tests) = leads-first otherwise tests
+
+-- and where none of the numbers is 0, what was told says whether the call refused
+pub told-values : (values : List ℕ) (tests : List (Test (List ℕ))) → Numbers (numbersOf tests) → (told : List ℕ) → 0 ∷ told ≡ first (0 ∷ values) tests → told ≡ values
+told-values values [] some told e = cc
+told-values values ((true gives t) ∷ tests) some told e = absurd (omega (arith, ap leading e, some .0))
+told-values values ((false gives t) ∷ tests) some told e = told-values values tests (some .1) told e
+
+pub told-number : (v : ℕ) (rest : List ℕ) (tests : List (Test (List ℕ))) → Numbers (numbersOf tests) → (number : ℕ) → number ∷ [] ≡ first (0 ∷ v ∷ rest) tests → 0 < number
+told-number v rest [] some number e = absurd (omega (arith, ap length e))
+told-number v rest ((true gives t) ∷ tests) some number e = omega (arith, ap leading e, some .0)
+told-number v rest ((false gives t) ∷ tests) some number e = told-number v rest tests (some .1) number e
 
 -- ---- what was told says whether the call refused
 module _ (refusal : ℕ) (values : List ℕ) where

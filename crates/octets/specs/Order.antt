@@ -1,7 +1,9 @@
 -- An order of refusals is a list of tests, each with what it gives. The answer is what the first test that holds gives.
+use Prim.Native.Nat.{ℕ}
 use mathlib.Core.List.{List, [], _∷_}
 use mathlib.Core.Bool.{Bool, true, false, cond}
 use mathlib.Core.Path.{_≡_}
+use Rattle.octets.specs.Output.{leading}
 
 infix 15 _gives_
 pub data Test (A : Type 0) : Type 0 where
@@ -17,3 +19,8 @@ pub data Because {A : Type 0} (otherwise : A) : List (Test A) → A → Type 0 w
   none : Because otherwise [] otherwise
   holds : {b : Bool} {a : A} {tests : List (Test A)} → b ≡ true → Because otherwise ((b gives a) ∷ tests) a
   fails : {b : Bool} {a c : A} {tests : List (Test A)} → b ≡ false → Because otherwise tests a → Because otherwise ((b gives c) ∷ tests) a
+
+-- the order of the numbers alone, where each test gives what is told
+abbrev pub numbersOf : List (Test (List ℕ)) → List (Test ℕ)
+numbersOf [] = []
+numbersOf ((b gives told) ∷ tests) = (b gives leading told) ∷ numbersOf tests

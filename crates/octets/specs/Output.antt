@@ -2,12 +2,16 @@
 use Prim.Native.Nat.{ℕ, _+_}
 use mathlib.Core.List.{List, [], _∷_, _++_}
 use mathlib.Core.Bool.{cond}
-use lib.ListN.{length, take, drop}
+use lib.ListN.{length, take, drop, getD}
 use lib.Dec.{eqb, leb}
 
 -- what a call tells: 0 and its values, or the refusal
 abbrev pub answer : ℕ → List ℕ → List ℕ
 answer refusal values = cond (eqb refusal 0) (0 ∷ values) (refusal ∷ [])
+
+-- the refusal alone: what is told begins with it, or with 0
+abbrev pub leading : List ℕ → ℕ
+leading told = getD told 0 0
 
 -- what it leaves of something lent: the new value; or, where it refuses, the old one
 abbrev pub unlessRefused : {A : Type 0} → ℕ → A → A → A

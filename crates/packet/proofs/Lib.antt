@@ -1,5 +1,1 @@
-pub mod ByKind
-pub mod Exactly
-pub mod Within
 pub mod Answers
-pub mod After

@@ -39,6 +39,10 @@ sizeFor h s = cond (eqb h 1) 1 (cond (eqb h 2) (octet s 1) (cond (eqb h 4) (be16
 abbrev pub encapSize : List ℕ → ℕ
 encapSize s = sizeFor (encapHeader s) s
 
+-- Our limit is 65,542 octets a packet.
+abbrev pub limit : ℕ
+limit = 65542
+
 -- extension not 0 with another ID than 6: of protocol ID p and extension x
 abbrev pub extendsAnother : ℕ → ℕ → Bool
 extendsAnother p x = not (eqb x 0) && not (eqb p 6)

@@ -1,13 +1,6 @@
-// Reads one packet, Space or Encapsulation, from the front of some octets. Octets after it are not looked at.
-mod encapsulation;
-mod space;
-
+// What a packet is, Space or Encapsulation: the fields that reading tells, and its sizes.
 ghost use mathlib.Core.Path.{_≡_};
-ghost use Prim.Native.Nat.{_+_};
-ghost use denote.Ref.{ptr};
-ghost use Rattle.packet.specs.Reading.{reading, content, contentAt};
-ghost use Rattle.packet.specs.Told.{told, numberOf, sizeOf, headerOf};
-use octets::octet_at;
+ghost use Rattle.packet.specs.Told.{numberOf, sizeOf, headerOf};
 
 // The octets of a Space Packet's header.
 pub const SPACE_HEADER: usize = 6;
@@ -36,23 +29,6 @@ pub enum Packet {
     },
     // one of the numbers 1 to 7
     Refused(u8),
-}
-
-// The fields of the packet at the front of s, or the refusal.
-pub fn read_packet(s: &[u8]) -> Packet
-    ensures { λ r. ⌜ told r ≡ reading (now (s .entry)) ⌝ }
-{
-    if s.len() == 0 {
-        return Packet::Refused(1);
-    }
-    let version = octet_at(s, 0) / 32 % 8;
-    if version == 0 {
-        return space::read(s);
-    }
-    if version == 7 {
-        return encapsulation::read(s);
-    }
-    Packet::Refused(2)
 }
 
 // The number of the refusal that p tells, or 0.
@@ -86,16 +62,4 @@ pub fn size_of(p: Packet) -> usize
         Packet::Encapsulation { header, octets, .. } => header as usize + octets as usize,
         Packet::Refused(_) => 0,
     }
-}
-
-// The data field or the content of the packet at the front of s, as a part of s: after its header, and an empty part at the front of s
-// where the packet is refused.
-pub fn data_of(s: &[u8]) -> &[u8]
-    ensures { λ r. ⌜ now r ≡ content (now (s .entry)) ⌝ }
-    ensures { λ r. ⌜ (ptr r .0 ≡ ptr (s .entry) .0) × (ptr r .1 ≡ ptr (s .entry) .1 + contentAt (now (s .entry))) ⌝ }
-{
-    let p = read_packet(s);
-    let from = header_of(p);
-    let to = size_of(p);
-    &s[from..to]
 }

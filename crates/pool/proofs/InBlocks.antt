@@ -9,9 +9,9 @@ use lib.ListN.{length, getD, set, take, drop, length-set, length-append, length-
 use lib.Seq.{sets, sets-eq, set-out, length-take-le, take-nil, take-length, take-all, drop-drop}
 use Rattle.octets.specs.Output.{put, putIfFits}
 use Rattle.octets.proofs.Puts.{put-fits, not-put, Wrote, Fits, then-put}
-use Rattle.pool.specs.Blocks.{mark, blocksFor, find}
+use Rattle.marks.specs.Blocks.{blocks, blockOctets, mark, blocksFor, find}
 use Rattle.pool.specs.Lookup.{ListsLane}
-use Rattle.pool.specs.Octets.{place, stored, gathered}
+use Rattle.pool.specs.Octets.{poolOctets, place, stored, gathered}
 
 -- more than there are, told by how many there are
 take-within : (n : ℕ) (l : List ℕ) → take (min n (length l)) l ≡ take n l
@@ -57,28 +57,28 @@ one-and-more n (suc p) (x ∷ l) = one-and-more n p l
 
 module _ (marks : List ℕ) (lane : ℕ) where
   -- the place of octet k, by a table that has the blocks of n octets
-  pub listed-place : (table : List ℕ) (from n k at : ℕ) → ListsLane lane from (blocksFor n) table marks → from ≤ k / 256 → k < n
-      → at ≡ getD table (k / 256) 0 * 256 + k % 256 → at ≡ place marks lane k
+  pub listed-place : (table : List ℕ) (from n k at : ℕ) → ListsLane lane from (blocksFor n) table marks → from ≤ k / blockOctets → k < n
+      → at ≡ getD table (k / blockOctets) 0 * blockOctets + k % blockOctets → at ≡ place marks lane k
   unfolding place blocksFor
-  listed-place table from n k at lists low high e = e ∙ rw (lists (k / 256) low (omega arith))
+  listed-place table from n k at lists low high e = e ∙ rw (lists (k / blockOctets) low (omega arith))
 
-  next-place : (k : ℕ) → k % 256 + 1 < 256 → suc (place marks lane k) ≡ place marks lane (k + 1)
+  next-place : (k : ℕ) → k % blockOctets + 1 < blockOctets → suc (place marks lane k) ≡ place marks lane (k + 1)
   unfolding place
-  next-place k h = let e : (k + 1) / 256 ≡ k / 256 = omega arith in rw e (omega arith)
+  next-place k h = let e : (k + 1) / blockOctets ≡ k / blockOctets = omega arith in rw e (omega arith)
 
   -- ---- storing
-  run-stored : (pool : List ℕ) (k p : ℕ) (ds : List ℕ) → p ≡ place marks lane k → k % 256 + length ds ≤ 256 → stored marks lane pool k ds ≡ sets pool p ds
+  run-stored : (pool : List ℕ) (k p : ℕ) (ds : List ℕ) → p ≡ place marks lane k → k % blockOctets + length ds ≤ blockOctets → stored marks lane pool k ds ≡ sets pool p ds
   unfolding stored
   run-stored pool k p [] e h = refl
   run-stored pool k p (d ∷ []) e h = rw e
   run-stored pool k p (d ∷ b ∷ ds) e h = rw (← e) (run-stored (set pool p d) (k + 1) (suc p) (b ∷ ds) (ap suc e ∙ next-place k (omega arith)) (omega arith))
 
-  run-put : (pool : List ℕ) (k p : ℕ) (ds : List ℕ) → length pool ≡ 16384 → p ≡ place marks lane k → 0 < length ds → k % 256 + length ds ≤ 256
+  run-put : (pool : List ℕ) (k p : ℕ) (ds : List ℕ) → length pool ≡ poolOctets → p ≡ place marks lane k → 0 < length ds → k % blockOctets + length ds ≤ blockOctets
       → stored marks lane pool k ds ≡ putIfFits pool p ds
   unfolding place
   run-put pool k p ds size e some h =
       run-stored pool k p ds e h
-      ∙ elim (decLt (find marks (mark lane (k / 256))) 64) [
+      ∙ elim (decLt (find marks (mark lane (k / blockOctets))) blocks) [
         | yes l ↦ sets-in pool p ds (omega arith)
         | no l ↦ sets-out pool p ds (omega arith) ∙ not-put pool p ds (omega arith)
       ]
@@ -96,7 +96,7 @@ module _ (marks : List ℕ) (lane : ℕ) where
   stored-length pool k (d ∷ ds) = stored-length (set pool (place marks lane k) d) (k + 1) ds ∙ length-set pool (place marks lane k) d
 
   -- ---- gathering
-  run-gathered : (pool : List ℕ) (k p n : ℕ) → p ≡ place marks lane k → k % 256 + n ≤ 256 → gathered marks lane pool k n ≡ take n (drop p pool)
+  run-gathered : (pool : List ℕ) (k p n : ℕ) → p ≡ place marks lane k → k % blockOctets + n ≤ blockOctets → gathered marks lane pool k n ≡ take n (drop p pool)
   unfolding gathered
   run-gathered pool k p zero e h = refl
   run-gathered pool k p (suc zero) e h = rw e (append-nil (take 1 (drop (place marks lane k) pool)))
@@ -119,8 +119,8 @@ module _ (marks : List ℕ) (lane : ℕ) where
       omega (arith, length-append (take 1 (drop (place marks lane k) pool)) (gathered marks lane pool (k + 1) n), length-take 1 (drop (place marks lane k) pool), gathered-at-most pool (k + 1) n)
 
   -- ---- a turn of each loop
-  module _ (pool : List ℕ) (from done run at : ℕ) (octets after : List ℕ) (size : length pool ≡ 16384) (more : done < length octets)
-      (r : run ≡ min (256 - (from + done) % 256) (length octets - done)) (a : at ≡ place marks lane (from + done))
+  module _ (pool : List ℕ) (from done run at : ℕ) (octets after : List ℕ) (size : length pool ≡ poolOctets) (more : done < length octets)
+      (r : run ≡ min (blockOctets - (from + done) % blockOctets) (length octets - done)) (a : at ≡ place marks lane (from + done))
       (e : after ≡ putIfFits pool at (take (done + run - done) (drop done octets))) where
     abbrev text : List ℕ
     text = take run (drop done octets)
@@ -140,7 +140,7 @@ module _ (marks : List ℕ) (lane : ℕ) where
         ∙ stored-then pool (from + done) text (drop run (drop done octets))
         ∙ rw (run-is, far, drop-drop)
 
-    pub turn-length : length after ≡ 16384
+    pub turn-length : length after ≡ poolOctets
     turn-length = sym (ap length run-is) ∙ stored-length pool (from + done) text ∙ size
 
   pub store-ends : (pool : List ℕ) (k done : ℕ) (octets : List ℕ) → length octets ≤ done → stored marks lane pool k (drop done octets) ≡ pool
@@ -149,7 +149,7 @@ module _ (marks : List ℕ) (lane : ℕ) where
 
   module _ (pool out₀ : List ℕ) (n k run at to p : ℕ) (out text after : List ℕ) (room : n ≤ length out₀) (more : k < n)
       (w : Wrote out₀ 0 (gathered marks lane pool 0 k) out at)
-      (r : run ≡ min (256 - k % 256) (n - k)) (a : p ≡ place marks lane k) (t : text ≡ take run (drop p pool))
+      (r : run ≡ min (blockOctets - k % blockOctets) (n - k)) (a : p ≡ place marks lane k) (t : text ≡ take run (drop p pool))
       (e : after ≡ putIfFits out at text) (f : to ≡ at + length text) where
     pub gather-turn : Wrote out₀ 0 (gathered marks lane pool 0 (k + run)) after to
     gather-turn =

@@ -1,12 +1,4 @@
-pub mod Finding
-pub mod Turns
+pub mod Listed
 pub mod InBlocks
 pub mod Guards
-pub mod Looking
-pub mod Seeing
 pub mod Apart
-pub mod Leaving
-pub mod Counts
-pub mod Sums
-pub mod Matched
-pub mod Lowest

@@ -1,4 +1,2 @@
-pub mod Blocks
 pub mod Octets
-pub mod Matching
 pub mod Lookup

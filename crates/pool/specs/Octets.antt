@@ -4,7 +4,10 @@ use mathlib.Core.Bool.{cond, _&&_}
 use mathlib.Core.List.{List, [], _∷_, _++_}
 use lib.ListN.{length, set, take, drop}
 use lib.Dec.{eqb, leb}
-use Rattle.pool.specs.Blocks.{blockOctets, poolOctets, mark, find}
+use Rattle.marks.specs.Blocks.{blocks, blockOctets, mark, find}
+
+abbrev pub poolOctets : ℕ
+poolOctets = blocks * blockOctets
 
 -- where octet k of the lane's group lies in the pool; at or past the pool's end if no block bears the mark
 unfoldable pub place : List ℕ → ℕ → ℕ → ℕ

@@ -3,24 +3,26 @@ ghost use mathlib.Core.Path.{_≡_};
 ghost use Prim.Native.Nat.{_+_, _*_, _/_, _%_, _≤_, _<_};
 ghost use lib.ListN.{length, getD, take, drop};
 ghost use Rattle.octets.specs.Output.{put as puts};
-ghost use Rattle.pool.specs.Octets.{stored, gathered};
-use crate::BLOCK_OCTETS;
-use crate::blocks_for;
+ghost use Rattle.marks.specs.Blocks.{blocks, blockOctets};
+ghost use Rattle.pool.specs.Octets.{poolOctets, stored, gathered};
 use crate::table::blocks_of_lane;
-use crate::table::smaller;
+use marks::BLOCK_OCTETS;
+use marks::BLOCKS;
+use marks::blocks_for;
+use numbers::smaller;
 use octets::put_octets;
 
 // Where octet k of a group lies in the pool, in this block.
 fn in_block(block: u8, k: usize) -> usize
-    ensures { λ r. ⌜ r ≡ block * 256 + k % 256 ⌝ }
+    ensures { λ r. ⌜ r ≡ block * blockOctets + k % blockOctets ⌝ }
 {
     block as usize * BLOCK_OCTETS + k % BLOCK_OCTETS
 }
 
 // The same by a table, at whose entry for octet k its block stands.
-fn place_listed(table: &[u8; 64], k: usize) -> usize
-    requires { ⌜ k < 16384 ⌝ }
-    ensures { λ r. ⌜ r ≡ getD (now (table .entry)) (k / 256) 0 * 256 + k % 256 ⌝ }
+fn place_listed(table: &[u8; BLOCKS], k: usize) -> usize
+    requires { ⌜ k < poolOctets ⌝ }
+    ensures { λ r. ⌜ r ≡ getD (now (table .entry)) (k / blockOctets) 0 * blockOctets + k % blockOctets ⌝ }
 {
     in_block(table[k / BLOCK_OCTETS], k)
 }
@@ -36,7 +38,7 @@ fn part(s: &[u8], at: usize, n: usize) -> &[u8]
 
 // The octets become octets from, from + 1, .. of the lane's group.
 pub(crate) fn store_runs(marks: &[u16], lane: u8, pool: &mut [u8], from: usize, octets: &[u8])
-    requires { ⌜ (length (now marks) ≡ 64) × (length (now pool) ≡ 16384) × (from + length (now octets) ≤ 16384) ⌝ }
+    requires { ⌜ (length (now marks) ≡ blocks) × (length (now pool) ≡ poolOctets) × (from + length (now octets) ≤ poolOctets) ⌝ }
     ensures { λ _. ⌜ now (pool .exit) ≡ stored (now (marks .entry)) lane (now (pool .entry)) from (now (octets .entry)) ⌝ }
 {
     let table = blocks_of_lane(
@@ -56,7 +58,7 @@ pub(crate) fn store_runs(marks: &[u16], lane: u8, pool: &mut [u8], from: usize, 
 
 // Puts the first n octets of the lane's group at the front of out, and tells how many were put.
 pub(crate) fn gather_runs(marks: &[u16], lane: u8, pool: &[u8], n: usize, out: &mut [u8]) -> usize
-    requires { ⌜ (length (now marks) ≡ 64) × (n ≤ length (now out)) × (n ≤ 16384) ⌝ }
+    requires { ⌜ (length (now marks) ≡ blocks) × (n ≤ length (now out)) × (n ≤ poolOctets) ⌝ }
     ensures { λ r. ⌜ r ≡ length (gathered (now (marks .entry)) lane (now (pool .entry)) 0 n) ⌝ }
     ensures { λ _. ⌜ now (out .exit) ≡ puts (now (out .entry)) 0 (gathered (now (marks .entry)) lane (now (pool .entry)) 0 n) ⌝ }
 {

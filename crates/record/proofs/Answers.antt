@@ -6,11 +6,12 @@ use mathlib.Core.List.{List, [], _∷_}
 use mathlib.Core.Bool.{not}
 use native.Mathlib.Omega.{arith}
 use lib.Dec.{eqb, ltb}
-use lib.ListN.{length, getD}
-use Rattle.octets.proofs.Order.{either, tells-values, tells-refusal}
-use Rattle.record.specs.Record.{recordSize, stationIn, fieldsIn}
-use Rattle.record.specs.Reading.{recordRefusal, recordReading, recordsIn, impossibleIn, fileRefusal, fileReading}
-use Rattle.record.specs.Told.{fields, toldRead, toldWritten, toldFile}
+use lib.ListN.{length}
+use Rattle.octets.specs.Output.{leading}
+use Rattle.octets.proofs.Order.{either, told-values, told-number}
+use Rattle.record.specs.Record.{recordSize, recordIn, fields}
+use Rattle.record.specs.Reading.{recordTests, recordRefusal, recordReading, recordsIn, impossibleIn, fileRefusal, fileReading}
+use Rattle.record.specs.Told.{toldRead, toldWritten, toldFile}
 use Rattle.record.specs.declared.Record.{Record}
 use Rattle.record.specs.declared.RecordRead.{RecordRead}
 use Rattle.record.specs.declared.RecordRead.the-variants as read
@@ -64,13 +65,16 @@ module _ (told : List ℕ) where
 
 -- ---- what each case says of the octets
 module _ (s : List ℕ) where
-  pub read-fields : (r : Record) → 0 ∷ fields r ≡ recordReading s → (recordRefusal s ≡ 0) × (fields r ≡ fieldsIn s)
+  pub read-fields : (r : Record) → 0 ∷ fields r ≡ recordReading s → (recordRefusal s ≡ 0) × (r ≡ recordIn s)
   unfolding recordReading
-  read-fields r e = tells-values (recordRefusal s) (fieldsIn s) (fields r) e
+  read-fields r e = (sym (ap leading e), fields-fix r (recordIn s) (told-values (fields (recordIn s)) (recordTests s) (omega arith, (omega arith, tt)) (fields r) e))
 
   pub read-refused : (number : ℕ) → number ∷ [] ≡ recordReading s → (recordRefusal s ≡ number) × (0 < recordRefusal s)
   unfolding recordReading
-  read-refused number e = tells-refusal (recordRefusal s) (fieldsIn s) (stationIn s) number _ refl e
+  read-refused number e =
+      let some = told-number _ _ (recordTests s) (omega arith, (omega arith, tt)) number e in
+      let same = ap leading e in
+      (sym same, omega (arith, some, same))
 
   -- a file: what is told begins with the number, and which test gave it settles the rest
   file-told : {told : List ℕ} → told ≡ fileReading s
@@ -80,8 +84,8 @@ module _ (s : List ℕ) where
       either (not (eqb (length s % recordSize) 0)) (λ t. inl (simp t at e))
       (λ f. either (ltb (impossibleIn s) (recordsIn s)) (λ t. inr (inl (simp (f, t) at e))) (λ g. inr (inr (simp (f, g) at e))))
 
-  number-told : {told : List ℕ} → told ≡ fileReading s → fileRefusal s ≡ getD told 0 0
-  number-told e = ap (λ t. getD t 0 0) (sym e)
+  number-told : {told : List ℕ} → told ≡ fileReading s → fileRefusal s ≡ leading told
+  number-told e = ap leading (sym e)
 
   pub file-records : (n : ℕ) → 0 ∷ n ∷ [] ≡ fileReading s → (fileRefusal s ≡ 0) × (n ≡ recordsIn s)
   file-records n e =

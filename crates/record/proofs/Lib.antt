@@ -2,6 +2,7 @@ pub mod Reading
 pub mod Exactly
 pub mod Before
 pub mod First
+pub mod Front
 pub mod InFile
 pub mod Answers
 pub mod RoundTrip

@@ -2,29 +2,30 @@
 use Prim.Native.Nat.{ℕ, zero, suc, _/_, _%_}
 use mathlib.Core.List.{List, [], _∷_}
 use mathlib.Core.Bool.{Bool, cond, not}
-use lib.ListN.{length, drop, getD}
+use lib.ListN.{length, drop}
 use lib.Dec.{eqb, ltb}
 use Rattle.octets.specs.Order.{Test, _gives_, first}
-use Rattle.octets.specs.Output.{answer}
-use Rattle.record.specs.Record.{recordSize, apidIn, unitsIn, packetsIn, missingIn, brokenIn, fieldsIn, possible}
+use Rattle.octets.specs.Output.{leading}
+use Rattle.record.specs.Record.{recordSize, recordIn, fields, possible}
 
 -- whether the record at the front of some octets is possible
 unfoldable pub possibleAt : List ℕ → Bool
-possibleAt s = possible (apidIn s) (unitsIn s) (packetsIn s) (missingIn s) (brokenIn s)
+possibleAt s = possible (recordIn s)
 
 -- 26 for a single record that is not 20 octets, then 25
-abbrev pub recordTests : List ℕ → List (Test ℕ)
+abbrev pub recordTests : List ℕ → List (Test (List ℕ))
 recordTests s =
-    (not (eqb (length s) recordSize) gives 26)
-    ∷ (not (possibleAt s) gives 25)
+    (not (eqb (length s) recordSize) gives (26 ∷ []))
+    ∷ (not (possibleAt s) gives (25 ∷ []))
     ∷ []
-
-unfoldable pub recordRefusal : List ℕ → ℕ
-recordRefusal s = first 0 (recordTests s)
 
 -- what reading one record tells: 0 and the fields, or the refusal
 unfoldable pub recordReading : List ℕ → List ℕ
-recordReading s = answer (recordRefusal s) (fieldsIn s)
+recordReading s = first (0 ∷ fields (recordIn s)) (recordTests s)
+
+-- the refusal alone
+abbrev pub recordRefusal : List ℕ → ℕ
+recordRefusal s = leading (recordReading s)
 
 -- how many of the first n records come before one that is not possible: its index, or n where there is none
 unfoldable pub possibleBefore : ℕ → List ℕ → ℕ
@@ -49,6 +50,5 @@ fileTests s =
 unfoldable pub fileReading : List ℕ → List ℕ
 fileReading s = first (0 ∷ recordsIn s ∷ []) (fileTests s)
 
--- the refusal alone: what is told begins with it
 abbrev pub fileRefusal : List ℕ → ℕ
-fileRefusal s = getD (fileReading s) 0 0
+fileRefusal s = leading (fileReading s)

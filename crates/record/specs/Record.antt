@@ -1,45 +1,52 @@
 -- The credit record. Fixed 20 octets, no header, high octet first: station 2, APID 2, units 4, packets 4, missing 4, broken 4.
-use Prim.Native.Nat.{ℕ, _+_, _*_, _-_}
+use Prim.Native.Nat.{ℕ, _+_, _*_, _-_, _<_}
 use mathlib.Core.List.{List, [], _∷_, _++_}
 use mathlib.Core.Bool.{Bool, cond, _&&_}
 use lib.Dec.{eqb, leb}
 use Rattle.octets.specs.Octets.{be16, be32, octets2, octets4}
+use Rattle.record.specs.declared.Record.{Record}
 
 abbrev pub recordSize : ℕ
 recordSize = 20
 
--- the fields in the octets
-abbrev pub stationIn : List ℕ → ℕ
-stationIn s = be16 s 0
+-- the record whose fields stand in some octets
+abbrev pub recordIn : List ℕ → Record
+recordIn s =
+    record { station = be16 s 0; apid = be16 s 2; units = be32 s 4; packets = be32 s 8; missing = be32 s 12; broken = be32 s 16 }
 
-abbrev pub apidIn : List ℕ → ℕ
-apidIn s = be16 s 2
+-- a record's octets, made from the fields
+unfoldable pub recordOctets : Record → List ℕ
+recordOctets r =
+    octets2 (r .station) ++ octets2 (r .apid) ++ octets4 (r .units) ++ octets4 (r .packets) ++ octets4 (r .missing) ++ octets4 (r .broken)
 
-abbrev pub unitsIn : List ℕ → ℕ
-unitsIn s = be32 s 4
+-- the fields in the record's order
+abbrev pub fields : Record → List ℕ
+fields r = r .station ∷ r .apid ∷ r .units ∷ r .packets ∷ r .missing ∷ r .broken ∷ []
 
-abbrev pub packetsIn : List ℕ → ℕ
-packetsIn s = be32 s 8
+-- a record whose fields have the widths of the struct
+pub record Wide (r : Record) : Type 0 where
+  pub station : r .station < 65536
+  pub apid : r .apid < 65536
+  pub units : r .units < 4294967296
+  pub packets : r .packets < 4294967296
+  pub missing : r .missing < 4294967296
+  pub broken : r .broken < 4294967296
 
-abbrev pub missingIn : List ℕ → ℕ
-missingIn s = be32 s 12
+-- the largest APID, the most packets, and the most that can be missing between two of them
+abbrev pub mostApid : ℕ
+mostApid = 2046
 
-abbrev pub brokenIn : List ℕ → ℕ
-brokenIn s = be32 s 16
+abbrev pub mostPackets : ℕ
+mostPackets = 262144
 
-abbrev pub fieldsIn : List ℕ → List ℕ
-fieldsIn s = stationIn s ∷ apidIn s ∷ unitsIn s ∷ packetsIn s ∷ missingIn s ∷ brokenIn s ∷ []
-
--- the octets, made from the fields
-unfoldable pub recordOctets : ℕ → ℕ → ℕ → ℕ → ℕ → ℕ → List ℕ
-recordOctets station apid units packets missing broken =
-    octets2 station ++ octets2 apid ++ octets4 units ++ octets4 packets ++ octets4 missing ++ octets4 broken
+abbrev pub mostBetween : ℕ
+mostBetween = 16382
 
 -- 16,382 x (packets - 1), or 0 if packets is 0
 abbrev pub mostMissing : ℕ → ℕ
-mostMissing packets = cond (eqb packets 0) 0 (16382 * (packets - 1))
+mostMissing packets = cond (eqb packets 0) 0 (mostBetween * (packets - 1))
 
 -- APID at most 2046; packets at most 262,144; units + broken at most packets; missing at most 16,382 x (packets - 1), or 0 if packets is 0
-unfoldable pub possible : ℕ → ℕ → ℕ → ℕ → ℕ → Bool
-possible apid units packets missing broken =
-    leb apid 2046 && leb packets 262144 && leb (units + broken) packets && leb missing (mostMissing packets)
+unfoldable pub possible : Record → Bool
+possible r =
+    leb (r .apid) mostApid && leb (r .packets) mostPackets && leb (r .units + r .broken) (r .packets) && leb (r .missing) (mostMissing (r .packets))

@@ -5,13 +5,15 @@ ghost use lib.Dec.{leb};
 ghost use lib.ListN.{length};
 ghost use Rattle.octets.specs.Octets.{octet, be16, be32};
 ghost use Rattle.octets.specs.Output.{put as puts};
-ghost use Rattle.record.specs.Record.{recordSize, fieldsIn, mostMissing};
-ghost use Rattle.record.specs.Told.{fields, octetsOf};
+ghost use Rattle.record.specs.Record.{recordSize, recordIn, recordOctets, mostMissing};
 use crate::Record;
 use octets::put_be16;
 use octets::put_be32;
 
 pub(crate) const SIZE: usize = 20;
+
+// The most that can be missing between two packets.
+const MOST_BETWEEN: u64 = 16382;
 
 // Whether so many can be missing between so many packets: 16,382 before each but the first. Fewer than the packets always can, so the product is
 // rarely made.
@@ -24,7 +26,7 @@ pub(crate) fn is_missing_possible(missing: u32, packets: u32) -> bool
     if missing < packets {
         return true;
     }
-    missing as u64 <= 16382 * (packets as u64 - 1)
+    missing as u64 <= MOST_BETWEEN * (packets as u64 - 1)
 }
 
 // The octet at index k, which lies within: the length was tested once for all fields, where `octets::octet_at` would test it for each octet.
@@ -54,7 +56,7 @@ fn be32_within(s: &[u8], k: usize) -> u32
 // The record at the front of s.
 pub(crate) fn record_in(s: &[u8]) -> Record
     requires { ⌜ recordSize ≤ length (now s) ⌝ }
-    ensures { λ r. ⌜ fields r ≡ fieldsIn (now (s .entry)) ⌝ }
+    ensures { λ r. ⌜ r ≡ recordIn (now (s .entry)) ⌝ }
 {
     Record {
         station: be16_within(s, 0),
@@ -69,7 +71,7 @@ pub(crate) fn record_in(s: &[u8]) -> Record
 // Puts the record at the front of out.
 pub(crate) fn put_fields(out: &mut [u8], r: Record)
     requires { ⌜ recordSize ≤ length (now out) ⌝ }
-    ensures { λ _. ⌜ now (out .exit) ≡ puts (now (out .entry)) 0 (octetsOf r) ⌝ }
+    ensures { λ _. ⌜ now (out .exit) ≡ puts (now (out .entry)) 0 (recordOctets r) ⌝ }
 {
     put_be16(out, 0, r.station);
     put_be16(out, 2, r.apid);

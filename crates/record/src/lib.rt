@@ -4,13 +4,21 @@ mod fields;
 ghost use mathlib.Core.Path.{_≡_};
 ghost use Prim.Native.Nat.{_*_, _≤_};
 ghost use lib.ListN.{length};
-ghost use Rattle.record.specs.Record.{recordSize};
+ghost use Rattle.record.specs.Record.{recordSize, recordIn, possible};
 ghost use Rattle.record.specs.Reading.{recordReading, possibleBefore, fileReading};
-ghost use Rattle.record.specs.Told.{toldRead, toldWritten, toldFile, isPossible, writtenOf, afterOf};
+ghost use Rattle.record.specs.Writing.{recordTold, recordAfter};
+ghost use Rattle.record.specs.Told.{toldRead, toldWritten, toldFile};
 use fields::SIZE;
 use fields::is_missing_possible;
 use fields::put_fields;
 use fields::record_in;
+use numbers::smaller;
+use octets::put_octets;
+
+// The largest APID, and the most packets, that a record can have.
+pub const MOST_APID: u16 = 2046;
+
+pub const MOST_PACKETS: u32 = 262144;
 
 // What a station is credited with for one lane.
 pub struct Record {
@@ -44,18 +52,28 @@ pub enum RecordFile {
 
 // Whether a record is possible. The sum is made in 64 bits, where it can't wrap; each test is left out where an earlier one fails.
 pub fn is_possible(r: Record) -> bool
-    ensures { λ b. ⌜ b ≡ isPossible r ⌝ }
+    ensures { λ b. ⌜ b ≡ possible r ⌝ }
 {
-    if 2046 < r.apid {
+    if MOST_APID < r.apid {
         return false;
     }
-    if 262144 < r.packets {
+    if MOST_PACKETS < r.packets {
         return false;
     }
     if (r.packets as u64) < r.units as u64 + r.broken as u64 {
         return false;
     }
     is_missing_possible(r.missing, r.packets)
+}
+
+// The record at the front of s, whatever its octets say. Past the end an octet counts as 0, so the octets that there are lie in zeros.
+pub fn front_record(s: &[u8]) -> Record
+    ensures { λ r. ⌜ r ≡ recordIn (now (s .entry)) ⌝ }
+{
+    let mut whole = [0u8; SIZE];
+    let n = smaller(s.len(), SIZE);
+    put_octets(&mut whole, 0, &s[..n]);
+    record_in(&whole)
 }
 
 // The fields of the record that s is, or the refusal.
@@ -75,8 +93,8 @@ pub fn read_record(s: &[u8]) -> RecordRead
 
 // Writes r at the front of out, if there is room and it is possible.
 pub fn write_record(r: Record, out: &mut [u8]) -> RecordWritten
-    ensures { λ w. ⌜ toldWritten w ≡ writtenOf r (now (out .entry)) ⌝ }
-    ensures { λ _. ⌜ now (out .exit) ≡ afterOf r (now (out .entry)) ⌝ }
+    ensures { λ w. ⌜ toldWritten w ≡ recordTold r (length (now (out .entry))) ⌝ }
+    ensures { λ _. ⌜ now (out .exit) ≡ recordAfter r (now (out .entry)) ⌝ }
 {
     if out.len() < SIZE {
         return RecordWritten::Refused(9);

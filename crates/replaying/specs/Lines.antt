@@ -7,7 +7,7 @@ use lib.Dec.{eqb}
 use lib.ListN.{length, take}
 use Rattle.octets.specs.Output.{put}
 use Rattle.text.specs.Text.{ascii, decimal, numbers}
-use Rattle.record.specs.Record.{fieldsIn}
+use Rattle.record.specs.Record.{recordIn, fields}
 use Rattle.octets.specs.Octets.{one}
 use Rattle.intake.specs.declared.Answer.{Answer}
 use Rattle.intake.specs.declared.Answer.the-variants.{Refused, Repeat, Stray, Held, Unit}
@@ -33,7 +33,7 @@ packetLine at lane (Unit n missing broke) out =
 
 -- record gives station, APID, units, packets, missing, broken, from the front of the output
 unfoldable pub recordLine : ℕ → ℕ → List ℕ → List ℕ
-recordLine at lane out = line at (ascii " close") lane (ascii " record") (fieldsIn out)
+recordLine at lane out = line at (ascii " close") lane (ascii " record") (fields (recordIn out))
 
 -- `bad` where there is no whole call
 unfoldable pub badLine : ℕ → List ℕ

@@ -6,10 +6,10 @@ use native.Mathlib.Nat.{sub-zero, zero-add}
 use native.Mathlib.Omega.{arith}
 use borrow.Author.Tests.{eq-eqb, ne-eqb}
 use lib.ListN.{length, drop, length-drop, drop-of-length-le}
-use Rattle.packet.specs.Reading.{refusal, size}
-use Rattle.packet.specs.Causes.{no-octets}
-use Rattle.packet.proofs.Exactly.{gives}
-use Rattle.packet.proofs.Within.{within}
+use Rattle.reading.specs.Reading.{refusal, size}
+use Rattle.reading.specs.Causes.{no-octets}
+use Rattle.reading.proofs.Exactly.{gives}
+use Rattle.reading.proofs.Within.{within}
 use Rattle.walk.specs.Walk.{next, placesFrom, endFrom, places, end, stop}
 
 -- a loop over s stands at index at, with n packets behind it

@@ -8,7 +8,7 @@ use native.Mathlib.Omega.{arith}
 use borrow.Author.Tests.{eqb-true, eqb-false}
 use lib.Dec.{eqb}
 use lib.ListN.{length, drop}
-use Rattle.packet.specs.Reading.{refusal}
+use Rattle.reading.specs.Reading.{refusal}
 use Rattle.walk.specs.Walk.{readAt, next, placesFrom, endFrom, places, end, stop}
 use Rattle.walk.proofs.Going.{past-end, moves}
 

@@ -4,7 +4,7 @@ use mathlib.Core.List.{List, [], _∷_}
 use mathlib.Core.Bool.{Bool, cond}
 use lib.ListN.{length, drop}
 use lib.Dec.{eqb}
-use Rattle.packet.specs.Reading.{refusal, size}
+use Rattle.reading.specs.Reading.{refusal, size}
 use Rattle.walk.specs.declared.Walked.{Walked}
 
 -- a packet is read at index at

@@ -1,13 +1,13 @@
 // Walks a run of packets that lie one after another.
 ghost use mathlib.Core.Path.{_≡_};
 ghost use lib.ListN.{drop};
-ghost use Rattle.packet.specs.Reading.{reading};
+ghost use Rattle.reading.specs.Reading.{reading};
 ghost use Rattle.packet.specs.Told.{told};
 ghost use Rattle.walk.specs.Walk.{walked};
 use packet::Packet;
 use packet::number_of;
-use packet::read_packet;
 use packet::size_of;
+use reading::read_packet;
 
 // Where a walk stopped: the octets in whole packets, their count, and the refusal that stopped it, or 0 at the end.
 pub struct Walked {

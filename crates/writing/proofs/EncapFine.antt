@@ -8,8 +8,7 @@ use borrow.Author.Tests.{lt-leb, le-ltb, leb-false, ltb-false}
 use lib.Dec.{ltb}
 use lib.ListN.{length, length-append}
 use Rattle.octets.proofs.Order.{either, neither}
-use Rattle.packet.specs.Encapsulation.{extendsAnother, namesEmpty}
-use Rattle.packet.specs.Reading.{limit}
+use Rattle.packet.specs.Encapsulation.{limit, extendsAnother, namesEmpty}
 use Rattle.writing.specs.Fields.{over}
 use Rattle.writing.specs.Encapsulation.{shortest, headerOctets, encapOctetsWith, encapOctets, encapOver, encapRefusal}
 use Rattle.writing.proofs.Header.{shortest-fits, header-size}

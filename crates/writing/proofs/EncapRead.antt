@@ -14,10 +14,10 @@ use Rattle.octets.specs.Octets.{octet, be16}
 use Rattle.octets.proofs.Order.{either}
 use Rattle.octets.proofs.Again.{read-two, read-four}
 use Rattle.packet.specs.Space.{version}
-use Rattle.packet.specs.Encapsulation.{protocol, headerFor, encapHeader, second, user, extension, ccsds, sizeFor, encapSize, extendsAnother, misnames, misnamed, namesEmpty, emptyNamed}
-use Rattle.packet.specs.Reading.{limit, header, size, refusal, fields, reading, content, contentAt}
-use Rattle.packet.specs.Causes.{Whole, encapsulation, EncapThere, EncapLong}
-use Rattle.packet.proofs.Exactly.{whole-gives, accepted}
+use Rattle.packet.specs.Encapsulation.{limit, protocol, headerFor, encapHeader, second, user, extension, ccsds, sizeFor, encapSize, extendsAnother, misnames, misnamed, namesEmpty, emptyNamed}
+use Rattle.reading.specs.Reading.{header, size, refusal, fields, reading, content, contentAt}
+use Rattle.reading.specs.Causes.{Whole, encapsulation, EncapThere, EncapLong}
+use Rattle.reading.proofs.Exactly.{whole-gives, accepted}
 use Rattle.writing.specs.Encapsulation.{firstOctet, headerOctets, encapOctetsWith}
 use Rattle.writing.proofs.Header.{Fit, one, two, four, eight, some, header-size}
 

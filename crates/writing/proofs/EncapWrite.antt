@@ -14,9 +14,9 @@ use Rattle.octets.proofs.Order.{either, neither}
 use Rattle.octets.proofs.Again as again
 use Rattle.packet.specs.Space.{version}
 use Rattle.packet.specs.Encapsulation.{protocol, lengthOfLength, encapHeader, user, extension, ccsds, sizeFor, encapSize, extendsAnother}
-use Rattle.packet.specs.Reading.{header, size, refusal, content}
-use Rattle.packet.specs.Causes.{encapsulation, EncapGood}
-use Rattle.packet.proofs.Exactly.{whole-gives}
+use Rattle.reading.specs.Reading.{header, size, refusal, content}
+use Rattle.reading.specs.Causes.{encapsulation, EncapGood}
+use Rattle.reading.proofs.Exactly.{whole-gives}
 use Rattle.writing.specs.Encapsulation.{shortest, firstOctet, headerOctets, encapOctetsWith, encapOctets}
 use Rattle.writing.proofs.EncapFine.{encap-size}
 

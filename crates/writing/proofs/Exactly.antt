@@ -8,8 +8,7 @@ use lib.Dec.{eqb, ltb}
 use Rattle.octets.specs.Order.{Because}
 use Rattle.octets.proofs.Order.{either, neither, exactly}
 use Rattle.packet.specs.Space.{spaceHeader, flagsIdle}
-use Rattle.packet.specs.Encapsulation.{extendsAnother, namesEmpty}
-use Rattle.packet.specs.Reading.{limit}
+use Rattle.packet.specs.Encapsulation.{limit, extendsAnother, namesEmpty}
 use Rattle.writing.specs.Space.{spaceOver, wrongDataLength, spaceTests, spaceRefusal}
 use Rattle.writing.specs.Encapsulation.{shortest, encapOver, encapTests, encapRefusal}
 

@@ -13,9 +13,9 @@ use Rattle.octets.specs.Octets.{AreOctets}
 use Rattle.octets.specs.Output.{put, outputAfter}
 use Rattle.packet.specs.Space.{version, packetType, secondary, apid, flags, count, spaceHeader}
 use Rattle.packet.specs.Encapsulation.{protocol, encapHeader, user, extension, encapSize}
-use Rattle.packet.specs.Reading.{size, refusal, reading, content, contentAt}
-use Rattle.packet.specs.Causes.{Whole, space, encapsulation, EncapGood}
-use Rattle.packet.proofs.Exactly.{exactly-whole}
+use Rattle.reading.specs.Reading.{size, refusal, reading, content, contentAt}
+use Rattle.reading.specs.Causes.{Whole, space, encapsulation, EncapGood}
+use Rattle.reading.proofs.Exactly.{exactly-whole}
 use Rattle.writing.specs.Space.{spaceOctets, spaceRefusal, spaceAfter}
 use Rattle.writing.specs.Encapsulation.{shortest, encapOctets, encapRefusal, encapAfter}
 use Rattle.writing.specs.Carries.{IsShortest}

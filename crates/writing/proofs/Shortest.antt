@@ -10,12 +10,12 @@ use lib.Dec.{eqb, ltb}
 use lib.ListN.{length}
 use Rattle.octets.specs.Octets.{octet, be16, AreOctets}
 use Rattle.octets.proofs.Order.{either, neither}
-use Rattle.packet.specs.Encapsulation.{protocol, encapHeader, user, extension, ccsds, sizeFor, encapSize, extendsAnother}
-use Rattle.packet.specs.Reading.{limit, reading, content, contentAt}
-use Rattle.packet.specs.Causes.{Whole, space, encapsulation, EncapGood}
+use Rattle.packet.specs.Encapsulation.{limit, protocol, encapHeader, user, extension, ccsds, sizeFor, encapSize, extendsAnother}
+use Rattle.reading.specs.Reading.{reading, content, contentAt}
+use Rattle.reading.specs.Causes.{Whole, space, encapsulation, EncapGood}
 use Rattle.packet.specs.declared.Packet.the-variants.{Encapsulation}
-use Rattle.packet.proofs.Exactly.{exactly-whole}
-use Rattle.packet.proofs.Answers.{Says, says}
+use Rattle.reading.proofs.Exactly.{exactly-whole}
+use Rattle.reading.proofs.Answers.{Says, says}
 use Rattle.writing.specs.Encapsulation.{shortest, headerOctets, encapOctetsWith, encapOctets, encapRefusal}
 use Rattle.writing.specs.Carries.{Carries, IsShortest}
 use Rattle.writing.proofs.Header as fit

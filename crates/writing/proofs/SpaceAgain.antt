@@ -11,9 +11,9 @@ use lib.Seq.{take-append-seam, take-add, length-take-le}
 use Rattle.octets.specs.Octets.{octet, be16, AreOctets}
 use Rattle.octets.proofs.Again.{two, split}
 use Rattle.packet.specs.Space.{version, packetType, secondary, apid, flags, count, spaceHeader, dataOctets, spaceSize, flaggedIdle}
-use Rattle.packet.specs.Reading.{header, size, refusal, fields, reading, content, contentAt}
-use Rattle.packet.specs.Causes.{Whole, space, SpaceGood}
-use Rattle.packet.proofs.Exactly.{whole-gives, accepted}
+use Rattle.reading.specs.Reading.{header, size, refusal, fields, reading, content, contentAt}
+use Rattle.reading.specs.Causes.{Whole, space, SpaceGood}
+use Rattle.reading.proofs.Exactly.{whole-gives, accepted}
 use Rattle.writing.specs.Space.{spaceOctets, spaceRefusal}
 use Rattle.writing.proofs.SpaceFine.{Fine, accepts, space-size}
 

@@ -5,7 +5,7 @@ use mathlib.Core.Path.{_≡_}
 use mathlib.Core.List.{List, [], _∷_}
 use lib.ListN.{length}
 use Rattle.octets.specs.Octets.{AreOctets}
-use Rattle.packet.specs.Reading.{reading, content}
+use Rattle.reading.specs.Reading.{reading, content}
 
 pub record Carries (h p u x : ℕ) (given : List ℕ) : Type 0 where
   pub packet : List ℕ

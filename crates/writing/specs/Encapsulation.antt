@@ -7,8 +7,7 @@ use lib.Dec.{eqb, ltb}
 use Rattle.octets.specs.Octets.{octets2, octets4}
 use Rattle.octets.specs.Order.{Test, _gives_, first}
 use Rattle.octets.specs.Output.{writerTells, outputAfter}
-use Rattle.packet.specs.Encapsulation.{extendsAnother, namesEmpty}
-use Rattle.packet.specs.Reading.{limit}
+use Rattle.packet.specs.Encapsulation.{limit, extendsAnother, namesEmpty}
 use Rattle.writing.specs.Fields.{over}
 
 -- the shortest header that can carry the fields and n octets of content: 1 octet only for no content, user 0 and protocol 0; at least 4

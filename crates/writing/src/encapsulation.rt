@@ -3,7 +3,7 @@ ghost use mathlib.Core.Path.{_≡_};
 ghost use Prim.Native.Nat.{_+_, _≤_, _<_};
 ghost use lib.ListN.{length};
 ghost use Rattle.octets.specs.Output.{put as puts};
-ghost use Rattle.packet.specs.Reading.{limit};
+ghost use Rattle.packet.specs.Encapsulation.{limit};
 ghost use Rattle.writing.specs.Encapsulation.{shortest, headerOctets, encapRefusal};
 use octets::put_be16;
 use octets::put_be32;

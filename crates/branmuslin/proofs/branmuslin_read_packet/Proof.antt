@@ -1,7 +1,7 @@
 -- In each arm the answer is the case that the arm names, and the law for that case has the numbers.
 use mathlib.Core.Path.{subst, _∙_}
 use denote.Ref.{now}
-use Rattle.packet.proofs.Answers.{Says, says}
+use Rattle.reading.proofs.Answers.{Says, says}
 use Rattle.branmuslin.proofs.Cases.{of-space, of-encapsulation, of-refused}
 use borrow.Author.Needs.{needs}
 use Rattle.branmuslin.proofs.branmuslin_read_packet.Statement.{statement}

@@ -2,7 +2,7 @@
 use mathlib.Core.Path.{sym, ap, _∙_}
 use denote.Ref.{now}
 use Rattle.octets.proofs.Order.{set-anew, kept}
-use Rattle.record.specs.Record.{fieldsIn}
+use Rattle.record.specs.Record.{recordIn, fields}
 use Rattle.record.specs.Reading.{recordRefusal}
 use Rattle.record.specs.Told.{toldRead}
 use Rattle.record.proofs.Answers.{read-fields, read-refused}
@@ -17,14 +17,14 @@ returns c =
     let a = there .before .before .before .before .args in
     let s = now (a .octets) in
     let says = read-fields s (there .read .given .0 .0) (sym (ap toldRead (there .read .given .1)) ∙ read .ensures) in
-    set-anew (recordRefusal s) (fieldsIn s) (now (a .numbers)) _ (says .0) (says .1)
+    set-anew (recordRefusal s) (fields (recordIn s)) (now (a .numbers)) _ (says .0) (ap fields (says .1))
 
 returns-2 : tie.Need-returns-2
 returns-2 c =
     let read = c .before .before .before .read-record in
     let a = c .before .before .before .before .before .args in
     let s = now (a .octets) in
-    kept (recordRefusal s) (fieldsIn s) (now (a .numbers)) _ (read-refused s _ (sym (ap toldRead (c .before .read2 .given .1)) ∙ read .ensures))
+    kept (recordRefusal s) (fields (recordIn s)) (now (a .numbers)) _ (read-refused s _ (sym (ap toldRead (c .before .read2 .given .1)) ∙ read .ensures))
 
 pub branmuslin-read-record-spec : {M : Type 1} → statement M
 branmuslin-read-record-spec = tie.close (tie.spec (λ c κs. search needs) (λ c. search needs) (λ c. search needs) (λ c. search needs) (λ c. search needs) returns returns-2)

@@ -1,4 +1,5 @@
 -- The larger sum within the packets is the one test that an open group adds (`more-broken`, by `Parts`).
+use Prim.Native.Nat.{_≤_}
 use native.Mathlib.Omega.{arith}
 use Rattle.lane.proofs.Parts.{too-few-packets, enough-packets}
 use Rattle.lane.proofs.Tallied.{one-most}
@@ -7,7 +8,7 @@ use Rattle.lane.proofs.are_tallies_possible.Statement.{statement}
 use Rattle.lane.proofs.are_tallies_possible.Tie as tie
 
 add-if1-2 : tie.Need-add-if1-2
-add-if1-2 c = let few = one-most (c .before .before .before .before .args .l .grouped) in omega (arith, few, c .one-if .ensures)
+add-if1-2 c = let few : c .one-if .result ≤ 1 = rw (c .one-if .ensures) (one-most _) in omega (arith, few)
 
 returns : tie.Need-returns
 returns c = too-few-packets (c .before .before .before .before .before .args .l) _ (c .before .one-if .ensures) (c .if1 .taken)

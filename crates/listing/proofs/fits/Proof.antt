@@ -10,7 +10,7 @@ use denote.Ref.{now}
 use lib.Dec.{leb}
 use lib.ListN.{length, drop, length-append, length-drop}
 use Rattle.octets.proofs.Order.{either}
-use Rattle.packet.proofs.Answers.{says}
+use Rattle.reading.proofs.Answers.{says}
 use Rattle.walk.proofs.Going.{Going, Turn, at-start}
 use Rattle.listing.specs.Listing.{endLine, listing}
 use Rattle.listing.specs.Lines.{lineOf}

@@ -2,6 +2,8 @@
 use mathlib.Core.Path.{sym, ap, _∙_}
 use mathlib.Core.List.{_∷_}
 use denote.Ref.{now}
+use Rattle.record.specs.Record.{fields}
+use Rattle.record.specs.declared.Record.{Record}
 use Rattle.record.proofs.Reading.{possible-in, not-20, not-possible, is-read}
 use borrow.Author.Needs.{needs}
 use Rattle.record.proofs.read_record.Statement.{statement}
@@ -15,7 +17,7 @@ returns-2 c =
     let s = now (c .before .before .before .before .before .args .s) in
     let read = c .before .before .record-in in
     let possible = sym (possible-in (read .result) s (read .ensures)) ∙ sym (c .before .is-possible .ensures) ∙ c .if2 .taken in
-    ap (λ more. 0 ∷ more) (read .ensures) ∙ is-read s (c .before .before .before .if1 .left) possible
+    ap (λ (r : Record). 0 ∷ fields r) (read .ensures) ∙ is-read s (c .before .before .before .if1 .left) possible
 
 returns-3 : tie.Need-returns-3
 returns-3 c =

@@ -6,9 +6,9 @@ use borrow.Author.Needs.{needs}
 use denote.Ref.{now}
 use lib.ListN.{length, drop, length-drop, drop-of-length-le}
 use lib.Seq.{take-all}
-use Rattle.packet.specs.Reading.{reading}
-use Rattle.packet.specs.Causes.{no-octets}
-use Rattle.packet.proofs.Exactly.{refused}
+use Rattle.reading.specs.Reading.{reading}
+use Rattle.reading.specs.Causes.{no-octets}
+use Rattle.reading.proofs.Exactly.{refused}
 use Rattle.walk.proofs.packet_at.Statement.{statement}
 use Rattle.walk.proofs.packet_at.Tie as tie
 

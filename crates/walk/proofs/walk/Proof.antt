@@ -5,7 +5,7 @@ use native.Mathlib.Omega.{arith}
 use borrow.Author.Needs.{needs}
 use denote.Ref.{now}
 use lib.ListN.{length, drop}
-use Rattle.packet.proofs.Answers.{number-read, size-read}
+use Rattle.reading.proofs.Answers.{number-read, size-read}
 use Rattle.walk.specs.Walk.{walked}
 use Rattle.walk.proofs.Going.{Going, Turn, at-start, turned, at-end, at-refusal}
 use Rattle.walk.proofs.walk.Statement.{statement}

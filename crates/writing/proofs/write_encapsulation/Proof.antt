@@ -7,7 +7,7 @@ use denote.Ref.{now}
 use lib.ListN.{length}
 use Rattle.octets.proofs.Puts.{Wrote, Fits, then-put}
 use Rattle.octets.proofs.Writers.{accepted, refused}
-use Rattle.packet.specs.Reading.{limit}
+use Rattle.packet.specs.Encapsulation.{limit}
 use Rattle.writing.specs.Encapsulation.{shortest, headerOctets, encapOctetsWith, encapOctets, encapRefusal}
 use Rattle.writing.proofs.Header.{shortest-fits, header-size}
 use Rattle.writing.proofs.EncapFine.{Fine, fine, encap-size}

@@ -1,6 +1,6 @@
 -- Octets of 16 bits have at most 256 blocks, which fit.
 use native.Mathlib.Omega.{arith}
-use Rattle.pool.specs.Blocks.{blocksFor}
+use Rattle.marks.specs.Blocks.{blocksFor}
 use borrow.Author.Needs.{needs}
 use Rattle.intake.proofs.lanes.blocks_of.Statement.{statement}
 use Rattle.intake.proofs.lanes.blocks_of.Tie as tie

@@ -1,7 +1,7 @@
 -- The group and then the user data are one text put once (`Carried`).
 use native.Mathlib.Omega.{arith}
 use denote.Ref.{now}
-use Rattle.lane.specs.Steps.{laneAfter}
+use Rattle.grouping.specs.Steps.{laneAfter}
 use Rattle.intake.specs.After.{marksAfter}
 use Rattle.intake.proofs.Carried.{unit-out}
 use borrow.Author.Needs.{needs}

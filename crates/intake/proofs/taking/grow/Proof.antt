@@ -1,6 +1,6 @@
 -- A group of so few octets has at most 64 blocks, and those that it has are among those that it needs.
 use native.Mathlib.Omega.{arith}
-use Rattle.pool.specs.Blocks.{blocksFor}
+use Rattle.marks.specs.Blocks.{blocksFor}
 use Rattle.intake.specs.After.{grown}
 use borrow.Author.Needs.{needs}
 use Rattle.intake.proofs.taking.grow.Statement.{statement}

@@ -1,7 +1,7 @@
 -- The marks grow and the octets are stored after those of the group (`Carried`).
 use native.Mathlib.Omega.{arith}
 use denote.Ref.{now}
-use Rattle.lane.specs.Steps.{laneAfter}
+use Rattle.grouping.specs.Steps.{laneAfter}
 use Rattle.intake.specs.After.{marksAfter}
 use Rattle.intake.proofs.Carried.{held-pool}
 use borrow.Author.Needs.{needs}

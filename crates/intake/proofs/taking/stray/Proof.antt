@@ -1,5 +1,5 @@
 -- The lane is counted and its marks are freed, as the definitions have it.
-use Rattle.lane.specs.Steps.{laneAfter}
+use Rattle.grouping.specs.Steps.{laneAfter}
 use Rattle.intake.specs.After.{marksAfter}
 use Rattle.intake.proofs.taking.stray.Statement.{statement}
 use Rattle.intake.proofs.taking.stray.Tie as tie

@@ -6,7 +6,7 @@ use native.Mathlib.Omega.{arith}
 use denote.Ref.{now}
 use lib.ListN.{length}
 use Rattle.octets.proofs.Puts.{put-length, nothing, Wrote}
-use Rattle.pool.specs.Blocks.{blocksFor}
+use Rattle.marks.specs.Blocks.{blocksFor}
 use Rattle.pool.specs.Octets.{gathered}
 use Rattle.pool.proofs.InBlocks.{short, listed-place, gather-turn, gathered-at-most}
 use borrow.Author.Needs.{needs}

@@ -5,8 +5,8 @@ use native.Mathlib.Nat.{add-zero}
 use native.Mathlib.Omega.{arith}
 use denote.Ref.{now}
 use lib.ListN.{length, drop}
-use Rattle.pool.specs.Blocks.{blocksFor}
-use Rattle.pool.specs.Octets.{stored}
+use Rattle.marks.specs.Blocks.{blockOctets, blocksFor}
+use Rattle.pool.specs.Octets.{poolOctets, stored}
 use Rattle.pool.proofs.InBlocks.{listed-place, store-turn, turn-length, store-ends}
 use borrow.Author.Needs.{needs}
 use Rattle.pool.proofs.runs.store_runs.Statement.{statement}
@@ -14,7 +14,7 @@ use Rattle.pool.proofs.runs.store_runs.Tie as tie
 
 abbrev Inv-loop : tie.InvT-loop
 Inv-loop marks lane pool₀ from octets table done₀ pool done =
-    (done ≤ length octets) × (length pool ≡ 16384) × (stored marks lane pool₀ from octets ≡ stored marks lane pool (from + done) (drop done octets))
+    (done ≤ length octets) × (length pool ≡ poolOctets) × (stored marks lane pool₀ from octets ≡ stored marks lane pool (from + done) (drop done octets))
 
 abbrev μ-loop : tie.MeasureT-loop
 μ-loop marks lane pool₀ from octets table done₀ pool done = length octets - done
@@ -40,7 +40,7 @@ loop-again c =
     let made = loop .before in
     let start = made .before .before .before .before .before in
     let lists = rw (made .before .blocks-for .ensures) at (made .blocks-of-lane .ensures) in
-    let there = listed-place (now (start .args .marks)) (start .args .lane) (made .blocks-of-lane .result) (start .args .from / 256) (start .args .from + length (now (start .args .octets)))
+    let there = listed-place (now (start .args .marks)) (start .args .lane) (made .blocks-of-lane .result) (start .args .from / blockOctets) (start .args .from + length (now (start .args .octets)))
     (start .args .from + loop .loop .done) (found .place-listed .result) lists (omega arith) (omega (arith, run .before .loop-test .taken)) (found .place-listed .ensures) in (
       omega (arith, run .smaller .ensures, run .before .loop-test .taken),
       turn-length _ _ (loop .loop .pool) (start .args .from) (loop .loop .done) (run .smaller .result) _ (now (start .args .octets)) _ (loop .loop .inv .1)

@@ -4,22 +4,22 @@ use mathlib.Core.Path.{_≡_}
 use native.Mathlib.Omega.{arith}
 use denote.Ref.{now}
 use lib.ListN.{length, length-set, length-replicate}
-use Rattle.pool.specs.Blocks.{mark, find}
+use Rattle.marks.specs.Blocks.{blocks, mark, find}
 use Rattle.pool.specs.Lookup.{ListsLane}
-use Rattle.pool.proofs.Finding.{at-most}
-use Rattle.pool.proofs.Looking.{write-turn}
+use Rattle.marks.proofs.Finding.{at-most}
+use Rattle.marks.proofs.Looking.{write-turn}
 use borrow.Author.Needs.{needs}
 use Rattle.pool.proofs.table.blocks_searched.Statement.{statement}
 use Rattle.pool.proofs.table.blocks_searched.Tie as tie
 
 abbrev Inv-loop : tie.InvT-loop
-Inv-loop marks lane from to table₀ place₀ table place = (place ≤ to) × (length table ≡ 64) × ListsLane lane from place table marks
+Inv-loop marks lane from to table₀ place₀ table place = (place ≤ to) × (length table ≡ blocks) × ListsLane lane from place table marks
 
 abbrev μ-loop : tie.MeasureT-loop
 μ-loop marks lane from to table₀ place₀ table place = to - place
 
 loop-holds : tie.Need-loop-holds Inv-loop μ-loop
-loop-holds c = (search needs, length-replicate {A = ℕ} 64 64, λ q low high. absurd (omega arith))
+loop-holds c = (search needs, length-replicate {A = ℕ} blocks blocks, λ q low high. absurd (omega arith))
 
 -- what is found is at most 64, and fits
 cast-table : tie.Need-cast-table Inv-loop μ-loop

@@ -5,6 +5,7 @@ use native.Mathlib.Omega.{arith}
 use borrow.Author.Tests.{eq-eqb, ne-eqb, eqb-true, eqb-false, le-leb, lt-leb}
 use lib.Dec.{eqb, leb}
 use Rattle.octets.proofs.Order.{either}
+use Rattle.record.specs.Record.{mostBetween}
 use borrow.Author.Needs.{needs}
 use Rattle.record.proofs.fields.is_missing_possible.Statement.{statement}
 use Rattle.record.proofs.fields.is_missing_possible.Tie as tie
@@ -19,7 +20,7 @@ returns c = simp (eq-eqb (c .before .args .packets) 0 (c .if1 .taken)) (at-most-
 returns-2 : tie.Need-returns-2
 returns-2 c =
     let a = c .before .before .args in
-    simp (ne-eqb (a .packets) 0 (c .before .if1 .left), le-leb (a .missing) (16382 * (a .packets - 1)) (omega arith))
+    simp (ne-eqb (a .packets) 0 (c .before .if1 .left), le-leb (a .missing) (mostBetween * (a .packets - 1)) (omega arith))
 
 returns-3 : tie.Need-returns-3
 returns-3 c = simp (ne-eqb (c .before .before .args .packets) 0 (c .before .if1 .left))

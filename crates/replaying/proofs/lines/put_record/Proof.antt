@@ -3,7 +3,7 @@ use mathlib.Core.List.{List, [], _∷_}
 use mathlib.Core.Path.{_≡_, subst}
 use denote.Ref.{now}
 use Prim.Native.Nat.{ℕ}
-use Rattle.record.specs.Record.{fieldsIn}
+use Rattle.record.specs.Record.{recordIn, fields}
 use Rattle.text.specs.Text.{ascii}
 use Rattle.replaying.specs.Lines.{line, recordLine, Lined}
 use borrow.Author.Needs.{needs}
@@ -14,8 +14,8 @@ returns : tie.Need-returns
 unfolding recordLine
 returns c =
     let a = c .before .before .before .before .before .before .before .before .before .before .before .before .before .before .before .args in
-    let fields : c .before .before .before .before .before .before .before .before .before .before .before .before .be16-at .result ∷ c .before .before .before .before .before .before .before .before .before .before .before .be16-at2 .result ∷ c .before .before .before .before .before .before .before .before .before .before .be32-at .result ∷ c .before .before .before .before .before .before .before .before .before .be32-at2 .result ∷ c .before .before .before .before .before .before .before .before .be32-at3 .result ∷ c .before .before .before .before .before .before .before .be32-at4 .result ∷ [] ≡ fieldsIn (now (a .out)) = cc in
-    subst (λ (ns : List ℕ). Lined (now (a .text)) (a .to) (line (a .at) (ascii " close") (a .lane) (ascii " record") ns) (c .before .before .put-line .last .0) (c .before .before .put-line .result)) fields (c .before .before .put-line .ensures)
+    let same : c .before .before .before .before .before .before .before .before .before .before .before .before .be16-at .result ∷ c .before .before .before .before .before .before .before .before .before .before .before .be16-at2 .result ∷ c .before .before .before .before .before .before .before .before .before .before .be32-at .result ∷ c .before .before .before .before .before .before .before .before .before .be32-at2 .result ∷ c .before .before .before .before .before .before .before .before .be32-at3 .result ∷ c .before .before .before .before .before .before .before .be32-at4 .result ∷ [] ≡ fields (recordIn (now (a .out))) = cc in
+    subst (λ (ns : List ℕ). Lined (now (a .text)) (a .to) (line (a .at) (ascii " close") (a .lane) (ascii " record") ns) (c .before .before .put-line .last .0) (c .before .before .put-line .result)) same (c .before .before .put-line .ensures)
 
 pub put-record-spec : {M : Type 1} → statement M
 put-record-spec =

@@ -2,7 +2,7 @@
 use Prim.Native.Nat.{_+_, _≤_}
 use native.Mathlib.Omega.{arith}
 use borrow.Author.Tests.{lt-ltb, le-ltb}
-use Rattle.packet.specs.Reading.{limit}
+use Rattle.packet.specs.Encapsulation.{limit}
 use Rattle.writing.specs.Encapsulation.{shortest, encapRefusal}
 use Rattle.writing.proofs.Header.{shortest-fits, some}
 use Rattle.writing.proofs.encapsulation.refusal.Tie as tie

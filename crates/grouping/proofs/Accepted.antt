@@ -1,0 +1,71 @@
+-- A packet that no test before the grouping rule refuses is a whole Space Packet with nothing after it: its header, the secondary octets and the
+-- user data. Every such refusal is at most 17.
+use Prim.Native.Nat.{ℕ, _+_, _-_, _≤_, _<_}
+use mathlib.Core.Path.{_≡_, refl, ap, _∙_}
+use mathlib.Core.Bool.{Bool, true, false, cond, not}
+use mathlib.Core.List.{List}
+use mathlib.Core.Logic.{⊎-elim}
+use native.Mathlib.Omega.{arith}
+use borrow.Author.Tests.{eq-eqb, eqb-true, eqb-false, ltb-false, not-true, not-false}
+use lib.Dec.{eqb, ltb}
+use lib.ListN.{length, drop, length-drop}
+use lib.Seq.{take-all, drop-drop}
+use Rattle.packet.specs.Space.{version, packetType, secondary, apid, dataOctets, spaceSize}
+use Rattle.reading.specs.Reading.{isEncapsulation, header, size, refusal, content}
+use Rattle.reading.specs.Causes.{Whole, space, encapsulation}
+use Rattle.reading.proofs.Exactly.{exactly-whole, verdict, whole-gives, gives, numbered}
+use Rattle.lane.specs.declared.Settings.{Settings}
+use Rattle.grouping.specs.Packets.{misflags, fault, userData, userOctets}
+
+-- a test that gives a number passes where the answer is 0
+pub passes : (b : Bool) (k rest : ℕ) → (b ≡ true → 0 < k) → cond b k rest ≡ 0 → (b ≡ false) × (rest ≡ 0)
+passes true k rest h e = absurd (omega (arith, h refl))
+passes false k rest h e = (refl, e)
+
+-- what is known of it
+pub record Accepted (l : Settings) (s : List ℕ) : Type 0 where
+  pub read : refusal s ≡ 0
+  pub kind : version s ≡ 0
+  pub whole : length s ≡ spaceSize s
+  pub long : l .secondary ≤ dataOctets s
+
+module _ (l : Settings) (s : List ℕ) where
+  of-whole : Whole s → isEncapsulation s ≡ false → (version s ≡ 0) × (spaceSize s ≤ length s)
+  of-whole (space t h) e = (t .0 .0 .1, h)
+  of-whole (encapsulation t h) e = absurd (eqb-false (version s) 7 e (t .0 .0 .0 .0 .0 .1))
+
+  pub accepted : fault l s ≡ 0 → Accepted l s
+  unfolding fault size
+  accepted e =
+      let a = passes (not (eqb (refusal s) 0)) (refusal s) _ (λ t. omega (arith, eqb-false (refusal s) 0 (not-true _ t))) e in
+      let b = passes (ltb (size s) (length s)) 12 _ (λ t. omega arith) (a .1) in
+      let c = passes (isEncapsulation s) 13 _ (λ t. omega arith) (b .1) in
+      let d = passes (eqb (packetType s) 1) 14 _ (λ t. omega arith) (c .1) in
+      let f = passes (not (eqb (apid s) (l .apid))) 15 _ (λ t. omega arith) (d .1) in
+      let g = passes (misflags (secondary s) (l .secondary)) 16 _ (λ t. omega arith) (f .1) in
+      let h = passes (ltb (dataOctets s) (l .secondary)) 17 0 (λ t. omega arith) (g .1) in
+      let read : refusal s ≡ 0 = eqb-true (refusal s) 0 (not-false _ (a .0)) in
+      let w = of-whole (exactly-whole s .0 read) (c .0) in
+      let most : length s ≤ spaceSize s = simp (eq-eqb (version s) 0 (w .0)) at (ltb-false (size s) (length s) (b .0)) in
+      record { read = read; kind = w .0; whole = omega (arith, w .1); long = ltb-false _ _ (h .0) }
+
+  pub accepted-data : fault l s ≡ 0 → (userData l s ≡ drop (6 + l .secondary) s) × (length (userData l s) ≡ userOctets l s)
+  unfolding userData content size header
+  accepted-data e =
+      let a = accepted e in
+      let all : content s ≡ drop 6 s = simp (eq-eqb _ _ (a .read), eq-eqb _ _ (a .kind)) (take-all (spaceSize s - 6) (drop 6 s) (omega (arith, length-drop 6 s, a .whole))) in
+      let data′ : userData l s ≡ drop (6 + l .secondary) s = ap (drop (l .secondary)) all ∙ drop-drop (l .secondary) 6 s in
+      (data′, ap length data′ ∙ length-drop (6 + l .secondary) s ∙ omega (arith, a .whole, a .long))
+
+  -- reading refuses by 1 to 7
+  pub fault-most : fault l s ≤ 17
+  unfolding fault
+  fault-most =
+      let few : refusal s ≤ 7 = ⊎-elim (λ w. omega (arith, whole-gives w)) (λ k. omega (arith, gives (k .1), numbered (k .1))) (verdict s) in
+      most (not (eqb (refusal s) 0)) (omega arith) (most (ltb (size s) (length s)) (omega arith) (most (isEncapsulation s) (omega arith)
+      (most (eqb (packetType s) 1) (omega arith) (most (not (eqb (apid s) (l .apid))) (omega arith)
+      (most (misflags (secondary s) (l .secondary)) (omega arith) (most (ltb (dataOctets s) (l .secondary)) (omega arith) (omega arith)))))))
+    where
+      most : (b : Bool) {k rest : ℕ} → k ≤ 17 → rest ≤ 17 → cond b k rest ≤ 17
+      most true h g = h
+      most false h g = g

@@ -1,0 +1,4 @@
+pub mod Grouped
+pub mod Faulty
+pub mod Accepted
+pub mod Planned

@@ -1,0 +1,27 @@
+-- The refusals before the grouping rule, of what the reader's enum tells. Only functions within the crate promise them; `fault` is what the
+-- public one promises.
+use Prim.Native.Nat.{ℕ, _+_}
+use mathlib.Core.Bool.{not}
+use mathlib.Core.List.{[], _∷_}
+use lib.Dec.{eqb, ltb}
+use Rattle.octets.specs.Order.{_gives_, first}
+use Rattle.packet.specs.Space.{spaceHeader}
+use Rattle.packet.specs.Told.{numberOf, sizeOf}
+use Rattle.packet.specs.declared.Packet.{Packet}
+use Rattle.lane.specs.declared.Settings.{Settings}
+use Rattle.grouping.specs.Packets.{misflags}
+
+-- of what is no Space Packet, read from n octets
+unfoldable pub otherRefusal : Packet → ℕ → ℕ
+otherRefusal p n = first 13 ((not (eqb (numberOf p) 0) gives numberOf p) ∷ (ltb (sizeOf p) n gives 12) ∷ [])
+
+-- of a Space Packet's fields, read from n octets: type t, flag x, APID a, d octets in the data field
+unfoldable pub spaceFault : Settings → ℕ → ℕ → ℕ → ℕ → ℕ → ℕ
+spaceFault l n t x a d =
+    first 0
+    ((ltb (spaceHeader + d) n gives 12)
+    ∷ (eqb t 1 gives 14)
+    ∷ (not (eqb a (l .apid)) gives 15)
+    ∷ (misflags x (l .secondary) gives 16)
+    ∷ (ltb d (l .secondary) gives 17)
+    ∷ [])

@@ -1,0 +1,56 @@
+// A packet that comes to a lane: why it is refused before the grouping rule.
+ghost use mathlib.Core.Path.{_≡_};
+ghost use Rattle.grouping.specs.Packets.{misflags};
+ghost use Rattle.grouping.specs.Faults.{otherRefusal, spaceFault};
+use lane::Settings;
+use packet::Packet;
+use packet::SPACE_HEADER;
+use packet::number_of;
+use packet::size_of;
+
+// The refusal of what is not a Space Packet, from so many octets: the reader's; or 12 for octets after it, and 13.
+pub(crate) fn other_refusal(p: Packet, octets: usize) -> u8
+    ensures { λ r. ⌜ r ≡ otherRefusal p octets ⌝ }
+{
+    let number = number_of(p);
+    if number != 0 {
+        return number;
+    }
+    if size_of(p) < octets { 12 } else { 13 }
+}
+
+// Whether the secondary header flag and the lane's secondary length disagree.
+fn is_misflagged(flag: u8, length: u8) -> bool
+    ensures { λ r. ⌜ r ≡ misflags flag length ⌝ }
+{
+    ((flag == 1) & (length == 0)) | ((flag == 0) & (length != 0))
+}
+
+// The refusal of a Space Packet that was read from so many octets, or 0.
+pub(crate) fn fault_of(
+    l: Settings,
+    octets: usize,
+    kind: u8,
+    secondary: u8,
+    apid: u16,
+    size: u32,
+) -> u8
+    ensures { λ r. ⌜ r ≡ spaceFault l octets kind secondary apid size ⌝ }
+{
+    if octets > SPACE_HEADER + size as usize {
+        return 12;
+    }
+    if kind == 1 {
+        return 14;
+    }
+    if apid != l.apid {
+        return 15;
+    }
+    if is_misflagged(secondary, l.secondary) {
+        return 16;
+    }
+    if size < l.secondary as u32 {
+        return 17;
+    }
+    0
+}

@@ -1,0 +1,9 @@
+pub mod Finding
+pub mod Turns
+pub mod Looking
+pub mod Seeing
+pub mod Leaving
+pub mod Counts
+pub mod Sums
+pub mod Matched
+pub mod Lowest

@@ -1,0 +1,86 @@
+-- What the reader's enum says of the octets, case by case, from the one equation of its promise; and that the equation fixes the answer.
+use Prim.Native.Nat.{ℕ, _-_, _≤_, _<_}
+use mathlib.Core.Path.{_≡_, refl, sym, _∙_}
+use mathlib.Core.List.{List, [], _∷_}
+use mathlib.Core.Bool.{Bool, true, false, cond}
+use native.Mathlib.Omega.{arith}
+use borrow.Author.Tests.{eq-eqb, ne-eqb, eqb-true, eqb-false}
+use lib.Dec.{eqb}
+use lib.ListN.{length, take, drop}
+use Rattle.packet.specs.Space.{version, packetType, secondary, apid, flags, count, dataOctets}
+use Rattle.packet.specs.Encapsulation.{protocol, user, extension, encapHeader, encapSize}
+use Rattle.reading.specs.Reading.{header, size, refusal, fields, reading, content, contentAt}
+use Rattle.packet.specs.Told.{told, numberOf, sizeOf, headerOf}
+use Rattle.packet.specs.declared.Packet.{Packet}
+use Rattle.packet.specs.declared.Packet.the-variants.{Space, Encapsulation, Refused}
+use Rattle.packet.proofs.Answers.{told-fixes}
+use Rattle.reading.proofs.Within.{Within, within}
+
+-- the promise permits one answer
+pub one-answer : (p q : Packet) (s : List ℕ) → told p ≡ reading s → told q ≡ reading s → p ≡ q
+one-answer p q s e f = told-fixes p q (e ∙ sym f)
+
+-- what each case says of the octets
+abbrev pub Says : Packet → List ℕ → Type 0
+Says (Space t x a f c n) s =
+    (refusal s ≡ 0) × (version s ≡ 0) × (t ≡ packetType s) × (x ≡ secondary s) × (a ≡ apid s) × (f ≡ flags s) × (c ≡ count s) × (n ≡ dataOctets s)
+Says (Encapsulation p u x h n) s =
+    (refusal s ≡ 0) × (version s ≡ 0 → ⊥) × (p ≡ protocol s) × (u ≡ user s) × (x ≡ extension s) × (h ≡ encapHeader s) × (n ≡ encapSize s - encapHeader s)
+Says (Refused k) s = (refusal s ≡ k) × (0 < k)
+
+-- the equation at the two tests in it: whether there is no refusal, and whether the packet is a Space Packet
+at-tests : (p : Packet) (s : List ℕ) (good kind : Bool) → eqb (refusal s) 0 ≡ good → eqb (version s) 0 ≡ kind
+    → told p ≡ cond good (0 ∷ cond kind (0 ∷ packetType s ∷ secondary s ∷ apid s ∷ flags s ∷ count s ∷ dataOctets s ∷ []) (7 ∷ protocol s ∷ user s ∷ extension s ∷ encapHeader s ∷ (encapSize s - encapHeader s) ∷ [])) (refusal s ∷ [])
+    → Says p s
+at-tests (Space t x a f c n) s true true g k e = (eqb-true _ _ g, eqb-true _ _ k, cc, cc, cc, cc, cc, cc)
+at-tests (Encapsulation p u x h n) s true false g k e = (eqb-true _ _ g, eqb-false _ _ k, cc, cc, cc, cc, cc)
+at-tests (Refused k) s false v g w e = let q : k ≡ refusal s = cc in (sym q, omega (arith, eqb-false (refusal s) 0 g))
+at-tests (Space t x a f c n) s true false g k e = let z : _≡_ {A = ℕ} 0 7 = cc in absurd (omega arith)
+at-tests (Space t x a f c n) s false v g k e = let z : _≡_ {A = ℕ} 0 1 = cc in absurd (omega arith)
+at-tests (Encapsulation p u x h n) s true true g k e = let z : _≡_ {A = ℕ} 0 7 = cc in absurd (omega arith)
+at-tests (Encapsulation p u x h n) s false v g k e = let z : _≡_ {A = ℕ} 0 1 = cc in absurd (omega arith)
+at-tests (Refused k) s true true g w e = let z : _≡_ {A = ℕ} 0 1 = cc in absurd (omega arith)
+at-tests (Refused k) s true false g w e = let z : _≡_ {A = ℕ} 0 1 = cc in absurd (omega arith)
+
+pub says : (p : Packet) (s : List ℕ) → told p ≡ reading s → Says p s
+unfolding reading fields
+says p s e = at-tests p s (eqb (refusal s) 0) (eqb (version s) 0) refl refl e
+
+pub number-told : (p : Packet) (s : List ℕ) → Says p s → numberOf p ≡ refusal s
+number-told (Space t x a f c n) s w = sym (w .0)
+number-told (Encapsulation p u x h n) s w = sym (w .0)
+number-told (Refused k) s w = sym (w .0)
+
+-- a packet that was read has the header and the size that the octets say
+pub size-told : (p : Packet) (s : List ℕ) → Says p s → refusal s ≡ 0 → (headerOf p ≡ header s) × (sizeOf p ≡ size s)
+unfolding header size
+size-told (Space t x a f c n) s w e = simp (eq-eqb (version s) 0 (w .1)) (refl, omega (arith, w .7))
+size-told (Encapsulation p u x h n) s w e =
+    let b : Within s = within s e in
+    simp (ne-eqb (version s) 0 (w .1)) (w .5, omega (arith, w .5, w .6, simp (ne-eqb (version s) 0 (w .1)) at b))
+size-told (Refused k) s w e = absurd (omega arith)
+
+-- the same of an answer as the code has it: k is what `number_of` gave of it, n what `size_of` did
+module _ (p : Packet) (s : List ℕ) (e : told p ≡ reading s) {k : ℕ} (number : k ≡ numberOf p) where
+  pub number-read : k ≡ refusal s
+  number-read = number ∙ number-told p s (says p s e)
+
+  pub size-read : k ≡ 0 → {n : ℕ} → n ≡ sizeOf p → n ≡ size s
+  size-read z size = size ∙ size-told p s (says p s e) (sym number-read ∙ z) .1
+
+-- the part from a to e of s is the data that the definition says, where it says, and lies within s
+abbrev pub PartIs : ℕ → ℕ → List ℕ → Type 0
+PartIs a e s = (a ≤ e) × (e ≤ length s) × (take (e - a) (drop a s) ≡ content s) × (a ≡ contentAt s)
+
+read-part : (s : List ℕ) {a e : ℕ} → refusal s ≡ 0 → (a ≡ header s) × (e ≡ size s) → PartIs a e s
+unfolding content contentAt
+read-part s r z = let b = within s r in rw (z .0, z .1) (simp (eq-eqb (refusal s) 0 r) (b .1, b .2, refl, refl))
+
+refused-part : (s : List ℕ) → 0 < refusal s → PartIs 0 0 s
+unfolding content contentAt
+refused-part s h = simp (ne-eqb (refusal s) 0 (λ z. omega arith)) (omega arith, omega arith, refl, refl)
+
+pub part-told : (p : Packet) (s : List ℕ) → Says p s → PartIs (headerOf p) (sizeOf p) s
+part-told (Space t x a f c n) s w = read-part s (w .0) (size-told (Space t x a f c n) s w (w .0))
+part-told (Encapsulation p u x h n) s w = read-part s (w .0) (size-told (Encapsulation p u x h n) s w (w .0))
+part-told (Refused k) s w = refused-part s (omega (arith, w .0, w .1))

@@ -1,0 +1,38 @@
+-- For a packet of known kind the order of refusals is a shorter list: what carries every proof about reading.
+use Prim.Native.Nat.{ℕ}
+use mathlib.Core.Path.{_≡_}
+use mathlib.Core.List.{List, [], _∷_}
+use native.Mathlib.Omega.{arith}
+use borrow.Author.Tests.{eq-eqb, ne-eqb}
+use lib.Dec.{ltb}
+use lib.ListN.{length}
+use Rattle.octets.specs.Order.{Test, _gives_, first}
+use Rattle.packet.specs.Space.{version, spaceHeader, spaceSize, flaggedIdle}
+use Rattle.packet.specs.Encapsulation.{limit, encapHeader, encapSize, misnamed, emptyNamed}
+use Rattle.reading.specs.Reading.{header, size, readingTests, refusal}
+use Rattle.reading.specs.Causes.{Version}
+
+abbrev pub spaceTests : List ℕ → List (Test ℕ)
+spaceTests s =
+    (ltb (length s) spaceHeader gives 1)
+    ∷ (flaggedIdle s gives 3)
+    ∷ (ltb (length s) (spaceSize s) gives 1)
+    ∷ []
+
+abbrev pub encapTests : List ℕ → List (Test ℕ)
+encapTests s =
+    (ltb (length s) (encapHeader s) gives 1)
+    ∷ (misnamed s gives 7)
+    ∷ (ltb (encapSize s) (encapHeader s) gives 4)
+    ∷ (ltb limit (encapSize s) gives 5)
+    ∷ (emptyNamed s gives 6)
+    ∷ (ltb (length s) (encapSize s) gives 1)
+    ∷ []
+
+pub space-refusal : (s : List ℕ) → Version 0 s → refusal s ≡ first 0 (spaceTests s)
+unfolding refusal readingTests header size
+space-refusal s (some, v) = simp (ne-eqb (length s) 0 (λ e. omega arith), eq-eqb (version s) 0 v)
+
+pub encap-refusal : (s : List ℕ) → Version 7 s → refusal s ≡ first 0 (encapTests s)
+unfolding refusal readingTests header size
+encap-refusal s (some, v) = simp (ne-eqb (length s) 0 (λ e. omega arith), ne-eqb (version s) 0 (λ e. omega arith), eq-eqb (version s) 7 v)

@@ -1,0 +1,107 @@
+-- Each number is given exactly when its cause holds. A cause fixes which tests hold, so the order gives its number (`gives`); and for every
+-- list of octets some cause holds or the packet is whole (`verdict`), so a number that is given has its cause.
+use Prim.Native.Nat.{ℕ, _≤_, _<_}
+use mathlib.Core.Path.{_≡_, sym, subst, _∙_}
+use mathlib.Core.Logic.{_⊎_, inl, inr, ⊎-elim}
+use mathlib.Core.List.{List, [], _∷_}
+use native.Mathlib.Omega.{arith}
+use borrow.Author.Tests.{eq-eqb, ne-eqb, lt-ltb, le-ltb, ltb-true, ltb-false, eqb-true, eqb-false}
+use lib.Dec.{ltb, eqb}
+use lib.ListN.{length}
+use Rattle.octets.proofs.Order.{either}
+use Rattle.packet.specs.Space.{version, spaceHeader, spaceSize, flaggedIdle}
+use Rattle.packet.specs.Encapsulation.{limit, encapHeader, encapSize, misnamed, emptyNamed}
+use Rattle.reading.specs.Reading.{readingTests, refusal, fields, reading}
+use Rattle.reading.specs.Causes.{Cause, no-octets, no-version, space-header, idle, space-packet, encap-header, names-nothing, less-than-header, over-limit, no-content, encap-packet}
+use Rattle.reading.specs.Causes.{Version, SpaceThere, EncapThere, EncapLong, EncapLimited, Whole, space, encapsulation}
+use Rattle.reading.proofs.ByKind.{space-refusal, encap-refusal}
+
+pub gives : {s : List ℕ} {n : ℕ} → Cause s n → refusal s ≡ n
+unfolding refusal readingTests
+gives {s} (no-octets e) = simp (eq-eqb (length s) 0 e)
+gives {s} (no-version p u v) = simp (ne-eqb (length s) 0 (λ e. omega arith), ne-eqb (version s) 0 u, ne-eqb (version s) 7 v)
+gives {s} (space-header v h) = space-refusal s v ∙ simp (lt-ltb _ _ h)
+gives {s} (idle t h) = space-refusal s (t .0) ∙ simp (le-ltb _ _ (t .1), h)
+gives {s} (space-packet (t, i) h) = space-refusal s (t .0) ∙ simp (le-ltb _ _ (t .1), i, lt-ltb _ _ h)
+gives {s} (encap-header v h) = encap-refusal s v ∙ simp (lt-ltb _ _ h)
+gives {s} (names-nothing t h) = encap-refusal s (t .0) ∙ simp (le-ltb _ _ (t .1), h)
+gives {s} (less-than-header (t, m) h) = encap-refusal s (t .0) ∙ simp (le-ltb _ _ (t .1), m, lt-ltb _ _ h)
+gives {s} (over-limit ((t, m), l) h) = encap-refusal s (t .0) ∙ simp (le-ltb _ _ (t .1), m, le-ltb _ _ l, lt-ltb _ _ h)
+gives {s} (no-content (((t, m), l), o) h) = encap-refusal s (t .0) ∙ simp (le-ltb _ _ (t .1), m, le-ltb _ _ l, le-ltb _ _ o, h)
+gives {s} (encap-packet ((((t, m), l), o), e) h) =
+    encap-refusal s (t .0) ∙ simp (le-ltb _ _ (t .1), m, le-ltb _ _ l, le-ltb _ _ o, e, lt-ltb _ _ h)
+
+pub whole-gives : {s : List ℕ} → Whole s → refusal s ≡ 0
+whole-gives {s} (space (t, i) h) = space-refusal s (t .0) ∙ simp (le-ltb _ _ (t .1), i, le-ltb _ _ h)
+whole-gives {s} (encapsulation ((((t, m), l), o), e) h) =
+    encap-refusal s (t .0) ∙ simp (le-ltb _ _ (t .1), m, le-ltb _ _ l, le-ltb _ _ o, e, le-ltb _ _ h)
+
+-- a number that is given is one of 1 to 7
+pub numbered : {s : List ℕ} {n : ℕ} → Cause s n → (0 < n) × (n ≤ 7)
+numbered (no-octets e) = omega arith
+numbered (no-version p u v) = omega arith
+numbered (space-header v h) = omega arith
+numbered (idle t h) = omega arith
+numbered (space-packet t h) = omega arith
+numbered (encap-header v h) = omega arith
+numbered (names-nothing t h) = omega arith
+numbered (less-than-header t h) = omega arith
+numbered (over-limit t h) = omega arith
+numbered (no-content t h) = omega arith
+numbered (encap-packet t h) = omega arith
+
+-- ---- for every list of octets the packet is whole or some cause holds
+abbrev pub Verdict : List ℕ → Type 0
+Verdict s = Whole s ⊎ ((n : ℕ) × Cause s n)
+
+because : {s : List ℕ} {n : ℕ} → Cause s n → Verdict s
+because {n = n} why = inr (n, why)
+
+module _ (s : List ℕ) where
+  of-space : Version 0 s → Verdict s
+  of-space v =
+      either (ltb (length s) spaceHeader) (λ h. because (space-header v (ltb-true _ _ h)))
+      (λ h. let t : SpaceThere s = (v, ltb-false _ _ h) in
+      either (flaggedIdle s) (λ i. because (idle t i))
+      (λ i. either (ltb (length s) (spaceSize s)) (λ l. because (space-packet (t, i) (ltb-true _ _ l)))
+      (λ l. inl (space (t, i) (ltb-false _ _ l)))))
+
+  end-of-encap : EncapLong s → Verdict s
+  end-of-encap l =
+      either (ltb limit (encapSize s)) (λ h. because (over-limit l (ltb-true _ _ h)))
+      (λ h. let o : EncapLimited s = (l, ltb-false _ _ h) in
+      either (emptyNamed s) (λ e. because (no-content o e))
+      (λ e. either (ltb (length s) (encapSize s)) (λ c. because (encap-packet (o, e) (ltb-true _ _ c)))
+      (λ c. inl (encapsulation (o, e) (ltb-false _ _ c)))))
+
+  of-encap : Version 7 s → Verdict s
+  of-encap v =
+      either (ltb (length s) (encapHeader s)) (λ h. because (encap-header v (ltb-true _ _ h)))
+      (λ h. let t : EncapThere s = (v, ltb-false _ _ h) in
+      either (misnamed s) (λ m. because (names-nothing t m))
+      (λ m. either (ltb (encapSize s) (encapHeader s)) (λ l. because (less-than-header (t, m) (ltb-true _ _ l)))
+      (λ l. end-of-encap ((t, m), ltb-false _ _ l))))
+
+  pub verdict : Verdict s
+  verdict =
+      either (eqb (length s) 0) (λ e. because (no-octets (eqb-true _ _ e)))
+      (λ e. let p : 0 < length s = omega (arith, eqb-false (length s) 0 e) in
+      either (eqb (version s) 0) (λ v. of-space (p, eqb-true _ _ v))
+      (λ v. either (eqb (version s) 7) (λ w. of-encap (p, eqb-true _ _ w))
+      (λ w. because (no-version p (eqb-false _ _ v) (eqb-false _ _ w)))))
+
+  -- ---- the laws: a number is given exactly when its cause holds, and none exactly when the packet is whole
+  pub exactly : (n : ℕ) → 0 < n → (refusal s ≡ n → Cause s n) × (Cause s n → refusal s ≡ n)
+  exactly n p = (λ e. ⊎-elim (λ w. absurd (omega (arith, whole-gives w))) (λ k. subst (Cause s) (sym (gives (k .1)) ∙ e) (k .1)) verdict, gives)
+
+  pub exactly-whole : (refusal s ≡ 0 → Whole s) × (Whole s → refusal s ≡ 0)
+  exactly-whole = (λ e. ⊎-elim (λ w. w) (λ k. absurd (omega (arith, gives (k .1), numbered (k .1)))) verdict, whole-gives)
+
+-- ---- what is told
+pub refused : {s : List ℕ} {n : ℕ} → Cause s n → n ∷ [] ≡ reading s
+unfolding reading
+refused {s} {n} why = rw (gives why) (simp (ne-eqb n 0 (λ z. omega (arith, numbered why))))
+
+pub accepted : {s : List ℕ} → Whole s → 0 ∷ fields s ≡ reading s
+unfolding reading
+accepted {s} w = simp (eq-eqb (refusal s) 0 (whole-gives w))

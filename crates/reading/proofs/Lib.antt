@@ -1,0 +1,6 @@
+pub mod ByKind
+pub mod Exactly
+pub mod Within
+pub mod Answers
+pub mod After
+pub mod Exits

@@ -1,0 +1,63 @@
+-- Reading one packet from the front of some octets. A refusal is the paper's number, and 0 stands for none.
+use Prim.Native.Nat.{ℕ, _-_}
+use mathlib.Core.List.{List, [], _∷_, _++_}
+use mathlib.Core.Bool.{Bool, cond, not, _||_}
+use lib.ListN.{length, take, drop}
+use lib.Dec.{ltb, eqb}
+use Rattle.octets.specs.Order.{Test, _gives_, first}
+use Rattle.octets.specs.Output.{answer}
+use Rattle.packet.specs.Space.{version, packetType, secondary, apid, flags, count, spaceHeader, dataOctets, spaceSize, flaggedIdle}
+use Rattle.packet.specs.Encapsulation.{limit, protocol, encapHeader, user, extension, encapSize, misnamed, emptyNamed}
+
+abbrev pub isSpace : List ℕ → Bool
+isSpace s = eqb (version s) 0
+
+abbrev pub isEncapsulation : List ℕ → Bool
+isEncapsulation s = eqb (version s) 7
+
+-- octets of the header, and of the whole packet
+unfoldable pub header : List ℕ → ℕ
+header s = cond (isSpace s) spaceHeader (encapHeader s)
+
+unfoldable pub size : List ℕ → ℕ
+size s = cond (isSpace s) (spaceSize s) (encapSize s)
+
+-- 3, or 7, 4, 5, 6
+abbrev pub kindTests : List ℕ → List (Test ℕ)
+kindTests s =
+    cond (isSpace s)
+    ((flaggedIdle s gives 3) ∷ [])
+    ((misnamed s gives 7)
+    ∷ (ltb (encapSize s) (encapHeader s) gives 4)
+    ∷ (ltb limit (encapSize s) gives 5)
+    ∷ (emptyNamed s gives 6)
+    ∷ [])
+
+-- 1 for no octets, 2, 1 for the header, then 3, or 7, 4, 5, 6, then 1 for the packet
+unfoldable pub readingTests : List ℕ → List (Test ℕ)
+readingTests s =
+    (eqb (length s) 0 gives 1)
+    ∷ (not (isSpace s || isEncapsulation s) gives 2)
+    ∷ (ltb (length s) (header s) gives 1)
+    ∷ (kindTests s ++ (ltb (length s) (size s) gives 1) ∷ [])
+
+unfoldable pub refusal : List ℕ → ℕ
+refusal s = first 0 (readingTests s)
+
+-- the version, and the fields that a packet of that version has
+unfoldable pub fields : List ℕ → List ℕ
+fields s =
+    cond (isSpace s)
+    (0 ∷ packetType s ∷ secondary s ∷ apid s ∷ flags s ∷ count s ∷ dataOctets s ∷ [])
+    (7 ∷ protocol s ∷ user s ∷ extension s ∷ encapHeader s ∷ (encapSize s - encapHeader s) ∷ [])
+
+-- what reading tells: 0 and the fields, or the refusal
+unfoldable pub reading : List ℕ → List ℕ
+reading s = answer (refusal s) (fields s)
+
+-- the data field or the content, and where it begins; an empty part at the front where the packet is refused
+unfoldable pub content : List ℕ → List ℕ
+content s = cond (eqb (refusal s) 0) (take (size s - header s) (drop (header s) s)) []
+
+unfoldable pub contentAt : List ℕ → ℕ
+contentAt s = cond (eqb (refusal s) 0) (header s) 0

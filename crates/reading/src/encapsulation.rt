@@ -1,0 +1,117 @@
+// The Encapsulation Packet: a header of 1, 2, 4 or 8 octets, then the content.
+ghost use mathlib.Core.Path.{_≡_};
+ghost use mathlib.Core.Bool.{cond};
+ghost use lib.Dec.{ltb};
+ghost use Rattle.octets.specs.Octets.{octet, be16};
+ghost use Rattle.packet.specs.Encapsulation.{headerFor, sizeFor, misnames};
+ghost use Rattle.reading.specs.Reading.{refusal, reading};
+ghost use Rattle.reading.specs.Causes.{Version};
+ghost use Rattle.packet.specs.Told.{told};
+use octets::be16_at;
+use octets::be32_at;
+use octets::octet_at;
+use packet::LIMIT;
+use packet::Packet;
+
+// The octets of the header, from the length of length.
+fn header_for(l: u8) -> u8
+    ensures { λ r. ⌜ r ≡ headerFor l ⌝ }
+{
+    if l == 0 {
+        1
+    } else if l == 1 {
+        2
+    } else if l == 2 {
+        4
+    } else {
+        8
+    }
+}
+
+// The packet length, from the last octets of the header.
+fn size_for(h: u8, s: &[u8]) -> usize
+    ensures { λ r. ⌜ r ≡ sizeFor h (now (s .entry)) ⌝ }
+{
+    if h == 1 {
+        1
+    } else if h == 2 {
+        octet_at(s, 1) as usize
+    } else if h == 4 {
+        be16_at(s, 2) as usize
+    } else {
+        be32_at(s, 4) as usize
+    }
+}
+
+// Octet 1, which a header of 1 or 2 octets does not have for a field.
+fn second_for(h: u8, s: &[u8]) -> u8
+    ensures { λ r. ⌜ r ≡ cond (ltb h 4) 0 (octet (now (s .entry)) 1) ⌝ }
+{
+    if h < 4 { 0 } else { octet_at(s, 1) }
+}
+
+// The CCSDS field, which only a header of 8 octets has.
+fn ccsds_for(h: u8, s: &[u8]) -> u16
+    ensures { λ r. ⌜ r ≡ cond (ltb h 8) 0 (be16 (now (s .entry)) 2) ⌝ }
+{
+    if h < 8 { 0 } else { be16_at(s, 2) }
+}
+
+// Whether the fields name no protocol, which is refusal 7.
+fn is_misnamed(header: u8, protocol: u8, extension: u8, ccsds: u16) -> bool
+    ensures { λ r. ⌜ r ≡ misnames header protocol extension ccsds ⌝ }
+{
+    ((protocol == 6) & (header < 4)) | ((extension != 0) & (protocol != 6)) | (ccsds != 0)
+}
+
+// The refusal of a packet of version 111, or 0.
+fn refusal_of(s: &[u8]) -> u8
+    requires { ⌜ Version 7 (now s) ⌝ }
+    ensures { λ r. ⌜ r ≡ refusal (now (s .entry)) ⌝ }
+{
+    let first = octet_at(s, 0);
+    let header = header_for(first % 4);
+    if s.len() < header as usize {
+        return 1;
+    }
+    let protocol = first / 4 % 8;
+    let second = second_for(header, s);
+    if is_misnamed(header, protocol, second % 16, ccsds_for(header, s)) {
+        return 7;
+    }
+    let size = size_for(header, s);
+    if size < header as usize {
+        return 4;
+    }
+    if LIMIT < size {
+        return 5;
+    }
+    if (size - header as usize == 0) & (protocol != 0) {
+        return 6;
+    }
+    if s.len() < size {
+        return 1;
+    }
+    0
+}
+
+// What the octets of a packet of version 111 tell.
+pub(crate) fn read(s: &[u8]) -> Packet
+    requires { ⌜ Version 7 (now s) ⌝ }
+    ensures { λ r. ⌜ told r ≡ reading (now (s .entry)) ⌝ }
+{
+    let number = refusal_of(s);
+    if number != 0 {
+        return Packet::Refused(number);
+    }
+    let first = octet_at(s, 0);
+    let header = header_for(first % 4);
+    let second = second_for(header, s);
+    Packet::Encapsulation {
+        protocol: first / 4 % 8,
+        user: second / 16 % 16,
+        extension: second % 16,
+        header,
+        octets: (size_for(header, s) - header as usize) as u32,
+    }
+}
