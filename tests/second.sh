@@ -4,8 +4,8 @@ second=$CARGO_TARGET_DIR/release/second
 export BRANMUSLIN_ARCHIVE=$PWD/target/lib/libbranmuslin.a
 
 second_cases() {
-    "$second" cases >"$work/second-cases" </dev/null && target/bin/cases >"$work/cases" && cmp "$work/second-cases" "$work/cases" &&
-        cmp "$work/second-cases" crates/cases/stdout
+    "$second" cases <crates/cases/stdin >"$work/second-cases" && target/bin/cases <crates/cases/stdin >"$work/cases" &&
+        cmp "$work/second-cases" "$work/cases" && cmp "$work/second-cases" crates/cases/stdout
 }
 
 check 'the second program builds' cargo build --quiet --release --offline --manifest-path tests/second/Cargo.toml

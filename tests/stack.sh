@@ -1,4 +1,4 @@
-# The stack that the library's calls use. Octets are copied by way of an array that the compiler is to make vanish (put_at_once in crates/octets); no
+# The stack that the library's calls use. Octets are copied by way of an array that the compiler is to make vanish (put_at_once in crates/putting); no
 # answer would change if it stayed, so that only these tests tell. Without sanitizers, which need stack of their own; the other flags and the archive are
 # those of tests/library.sh.
 

@@ -1,7 +1,7 @@
 /*
  * deepest: how deep each function of the library goes into the stack, a line a call; the status is 1 if one goes deeper than MOST.
  *
- * The library copies octets by way of a local array of 65,542 (put_at_once in crates/octets), which the compiler makes vanish: the two copies become one
+ * The library copies octets by way of a local array of 65,542 (put_at_once in crates/putting), which the compiler makes vanish: the two copies become one
  * memmove. That is an optimisation, and nothing promises it. If it stopped, every answer would still be right, but a call would need 65 KB more of its
  * caller's stack, and copy everything twice. So each call is made here on a stack that was painted before: what is no longer paint was used. The calls
  * that copy are given the most that they can copy.

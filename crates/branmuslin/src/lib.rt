@@ -1,6 +1,6 @@
 // The C library: the functions that include/branmuslin.h declares, thin over the proved ones. Each returns the number of the refusal, or 0,
 // and where it refuses leaves everything that was lent to it as it was (but for the index that belongs to refusal 25 of a record file). A slice
-// is a pointer and a length in C; kind, field and out are type, data and output in the header.
+// is a pointer and a length in C; packet_type, field and out are type, data and output in the header.
 mod numbers;
 
 ghost use mathlib.Core.Path.{_≡_};
@@ -56,7 +56,7 @@ pub extern "C" fn branmuslin_read_packet(octets: &[u8], numbers: &mut [u32; 11])
 // Writes a Space Packet at the front of out, and tells its octets.
 #[no_mangle]
 pub extern "C" fn branmuslin_write_space(
-    kind: u32,
+    packet_type: u32,
     secondary: u32,
     apid: u32,
     flags: u32,
@@ -65,11 +65,11 @@ pub extern "C" fn branmuslin_write_space(
     out: &mut [u8],
     written: &mut usize,
 ) -> u8
-    ensures { λ r. ⌜ r ≡ spaceRefusal kind secondary apid flags count (length (now (field .entry))) (length (now (out .entry))) ⌝ }
-    ensures { λ _. ⌜ now (out .exit) ≡ spaceAfter kind secondary apid flags count (now (field .entry)) (now (out .entry)) ⌝ }
-    ensures { λ _. ⌜ now (written .exit) ≡ spaceWrittenAfter kind secondary apid flags count (now (field .entry)) (now (out .entry)) (now (written .entry)) ⌝ }
+    ensures { λ r. ⌜ r ≡ spaceRefusal «packet_type» secondary apid flags count (length (now (field .entry))) (length (now (out .entry))) ⌝ }
+    ensures { λ _. ⌜ now (out .exit) ≡ spaceAfter «packet_type» secondary apid flags count (now (field .entry)) (now (out .entry)) ⌝ }
+    ensures { λ _. ⌜ now (written .exit) ≡ spaceWrittenAfter «packet_type» secondary apid flags count (now (field .entry)) (now (out .entry)) (now (written .entry)) ⌝ }
 {
-    let w = writing::write_space(kind, secondary, apid, flags, count, field, out);
+    let w = writing::write_space(packet_type, secondary, apid, flags, count, field, out);
     match w {
         Written::Octets(octets) => {
             *written = octets;

@@ -6,18 +6,18 @@ ghost use Rattle.packet.specs.Space.{spaceHeader};
 use packet::SPACE_HEADER;
 
 pub(crate) fn space_numbers(
-    kind: u8,
+    packet_type: u8,
     secondary: u8,
     apid: u16,
     flags: u8,
     count: u16,
     octets: u32,
 ) -> [u32; 11]
-    ensures { λ r. ⌜ r ≡ (0 ∷ kind ∷ secondary ∷ apid ∷ flags ∷ count ∷ 0 ∷ 0 ∷ 0 ∷ spaceHeader ∷ octets ∷ []) ⌝ }
+    ensures { λ r. ⌜ r ≡ (0 ∷ «packet_type» ∷ secondary ∷ apid ∷ flags ∷ count ∷ 0 ∷ 0 ∷ 0 ∷ spaceHeader ∷ octets ∷ []) ⌝ }
 {
     [
         0,
-        kind as u32,
+        packet_type as u32,
         secondary as u32,
         apid as u32,
         flags as u32,

@@ -1,141 +1,104 @@
-// Cases of writing packets: what the writer answered, the front of the output, and its octets around the packet's end.
+// Cases of writing packets and records: what the writer answered, the front of the output, and its octets around the end of what was written.
+use crate::line::at;
+use crate::say::END;
+use crate::say::OUTPUT;
+use crate::say::REFUSED;
+use crate::say::WROTE;
 use crate::say::front;
 use crate::say::lend;
-use crate::say::say;
-use crate::say::say_number;
 use crate::say::say_octet;
 use crate::say::say_octets;
-use crate::say::say_refused;
+use crate::say::say_with;
+use crate::say::say_word;
 use octets::octet_at;
+use putting::put_octet;
+use record::Record;
+use record::RecordWritten;
+use record::write_record;
 use writing::Written;
+use writing::write_encapsulation;
+use writing::write_space;
 
-// What lies in the output before each call.
-const FILL: u8 = 0xA5;
+const ENCA: u32 = 0x656E6361;
+
+const SPAC: u32 = 0x73706163;
 
 // Content to be written: octet i is i mod 251, so that no two places nearby are alike.
 pub(crate) fn fill_content(content: &mut [u8]) {
     let mut i = 0;
     while i < content.len() {
-        content[i] = (i % 251) as u8;
+        put_octet(content, i, (i % 251) as u8);
         i += 1;
     }
 }
 
-// The answer, and the output after it.
+// The first 24 octets of the output, the last of the n that were written, and the next.
+pub(crate) fn say_output(out: &[u8], n: usize) {
+    say_word(OUTPUT);
+    say_octets(front(out, 24));
+    if n > 0 {
+        say_word(END);
+        say_octet(octet_at(out, n - 1));
+        say_octet(octet_at(out, n));
+    }
+}
+
+// The record in the numbers: station, APID, units, packets, missing, broken.
+fn record_of(n: [u32; 16]) -> Record {
+    Record {
+        station: (at(n, 2) % 65536) as u16,
+        apid: (at(n, 3) % 65536) as u16,
+        units: at(n, 4),
+        packets: at(n, 5),
+        missing: at(n, 6),
+        broken: at(n, 7),
+    }
+}
+
+// The same answer of a packet's writer.
+fn as_packet(written: RecordWritten) -> Written {
+    match written {
+        RecordWritten::Octets(n) => Written::Octets(n),
+        RecordWritten::Refused(number) => Written::Refused(number),
+    }
+}
+
+// The numbers are the writer's fields, then octets of content, then octets of output.
+fn write(what: u32, n: [u32; 16], content: &[u8], out: &mut [u8]) -> Written {
+    if what == ENCA {
+        let data = front(content, at(n, 5) as usize);
+        return write_encapsulation(
+            at(n, 2),
+            at(n, 3),
+            at(n, 4),
+            data,
+            lend(out, at(n, 6) as usize),
+        );
+    }
+    let out = lend(out, at(n, 8) as usize);
+    if what == SPAC {
+        let data = front(content, at(n, 7) as usize);
+        return write_space(at(n, 2), at(n, 3), at(n, 4), at(n, 5), at(n, 6), data, out);
+    }
+    as_packet(write_record(record_of(n), out))
+}
+
 fn say_written(written: Written, out: &[u8]) {
     match written {
         Written::Octets(n) => {
-            say(b" wrote");
-            say_number(n as u64);
-            say(b" front");
-            say_octets(front(out, 10));
-            say(b" end");
-            if n > 0 {
-                say_octet(octet_at(out, n - 1));
-            }
-            say_octet(octet_at(out, n));
+            say_with(WROTE, n as u64);
+            say_output(out, n);
         }
         Written::Refused(number) => {
-            say_refused(number);
-            say(b" front");
-            say_octets(front(out, 10));
+            say_with(REFUSED, number as u64);
+            say_output(out, 0);
         }
     }
-    say(b"\n");
 }
 
-// Writes n octets of content into an output of `room` octets.
-fn encapsulation_case(protocol: u32, user: u32, extension: u32, n: usize, room: usize) {
-    let mut content = [0u8; 65535];
-    let mut out = [FILL; 65544];
-    fill_content(&mut content);
-    say(b"write encap");
-    say_number(protocol as u64);
-    say_number(user as u64);
-    say_number(extension as u64);
-    say_number(n as u64);
-    say_number(room as u64);
-    say(b":");
-    let written = writing::write_encapsulation(
-        protocol,
-        user,
-        extension,
-        front(&content, n),
-        lend(&mut out, room),
-    );
+// What is written: `encap`, `space` or `record`, by its first four letters.
+pub(crate) fn say_writing(what: u32, n: [u32; 16], content: &[u8]) {
+    let mut out = [0xA5u8; 65544];
+    let written = write(what, n, content, &mut out);
     say_written(written, &out);
-}
-
-// Writes n octets of data into an output of `room` octets.
-fn space_case(kind: u32, secondary: u32, apid: u32, flags: u32, count: u32, n: usize, room: usize) {
-    let mut field = [0u8; 65537];
-    let mut out = [FILL; 65544];
-    fill_content(&mut field);
-    say(b"write space");
-    say_number(kind as u64);
-    say_number(secondary as u64);
-    say_number(apid as u64);
-    say_number(flags as u64);
-    say_number(count as u64);
-    say_number(n as u64);
-    say_number(room as u64);
-    say(b":");
-    let written = writing::write_space(
-        kind,
-        secondary,
-        apid,
-        flags,
-        count,
-        front(&field, n),
-        lend(&mut out, room),
-    );
-    say_written(written, &out);
-}
-
-// Where the header grows, and the longest packet.
-pub(crate) fn paper_cases() {
-    encapsulation_case(2, 0, 0, 253, 65544);
-    encapsulation_case(2, 0, 0, 254, 65544);
-    encapsulation_case(2, 0, 0, 65531, 65544);
-    encapsulation_case(2, 0, 0, 65532, 65544);
-    encapsulation_case(2, 0, 0, 65534, 65544);
-    encapsulation_case(2, 0, 0, 65535, 65544);
-}
-
-// The header's size, and the order of causes.
-pub(crate) fn encapsulation_cases() {
-    encapsulation_case(0, 0, 0, 0, 1);
-    encapsulation_case(0, 0, 0, 0, 0);
-    encapsulation_case(0, 1, 0, 0, 4);
-    encapsulation_case(6, 0, 0, 1, 5);
-    encapsulation_case(6, 15, 15, 3, 10);
-    encapsulation_case(7, 0, 0, 1, 2);
-    encapsulation_case(2, 0, 0, 0, 9);
-    encapsulation_case(2, 0, 3, 0, 9);
-    encapsulation_case(6, 0, 0, 0, 9);
-    encapsulation_case(8, 0, 0, 1, 9);
-    encapsulation_case(2, 16, 0, 1, 9);
-    encapsulation_case(2, 0, 16, 1, 9);
-    encapsulation_case(258, 0, 0, 1, 9);
-    encapsulation_case(2, 0, 0, 65535, 0);
-    encapsulation_case(2, 0, 0, 65534, 65541);
-}
-
-pub(crate) fn space_cases() {
-    space_case(0, 0, 42, 3, 5, 2, 8);
-    space_case(0, 0, 42, 3, 5, 2, 7);
-    space_case(1, 1, 2046, 1, 16383, 3, 20);
-    space_case(0, 0, 2047, 3, 0, 1, 7);
-    space_case(0, 1, 2047, 3, 0, 1, 7);
-    space_case(2, 0, 42, 3, 5, 2, 8);
-    space_case(0, 2, 42, 3, 5, 2, 8);
-    space_case(0, 0, 2048, 3, 5, 2, 8);
-    space_case(0, 0, 42, 4, 5, 2, 8);
-    space_case(0, 0, 42, 3, 16384, 2, 8);
-    space_case(0, 1, 2047, 3, 16384, 0, 0);
-    space_case(0, 1, 2047, 3, 0, 0, 0);
-    space_case(0, 0, 42, 3, 5, 0, 0);
-    space_case(0, 0, 42, 3, 5, 65536, 65542);
-    space_case(0, 0, 42, 3, 5, 65537, 65544);
-    space_case(0, 0, 42, 3, 5, 65536, 65541);
 }

@@ -1,16 +1,17 @@
 -- Octets not written stay, since storing sets places of the lane's group only; and a freed block is used again: it is free among the marks in which the next lane
 -- looks, so where its place is due it gets that lane's mark.
-use Prim.Native.Nat.{ℕ, zero, suc, _+_, _/_, _≤_, _<_, max}
+use Prim.Native.Nat.{ℕ, zero, suc, _+_, _/_, _≤_, _<_}
 use mathlib.Core.Path.{_≡_, refl, sym, ap, subst, _∙_}
-use mathlib.Core.Bool.{Bool, true, false, cond, not, _&&_}
+use mathlib.Core.Bool.{Bool, true, false, cond, _&&_}
 use mathlib.Core.List.{List, [], _∷_, _++_}
 use native.Mathlib.Omega.{arith}
-use borrow.Author.Tests.{eqb-true, eq-eqb, le-leb, le-ltb, lt-ltb, lt-leb}
+use borrow.Author.Tests.{eqb-true, eq-eqb, le-ltb, lt-ltb, lt-leb}
 use lib.Dec.{eqb}
 use lib.ListN.{length, getD, set}
 use lib.Seq.{getD-set-other}
 use Rattle.octets.proofs.Order.{either, both}
 use Rattle.packet.specs.Space.{flags, count}
+use Rattle.record.specs.Record.{mostPackets}
 use Rattle.marks.specs.Blocks.{free, mark, blocksFor, freedMark, freed}
 use Rattle.pool.specs.Octets.{place, stored}
 use Rattle.marks.specs.Matching.{isFree}
@@ -18,21 +19,21 @@ use Rattle.lane.specs.declared.Lane.{Lane}
 use Rattle.grouping.specs.declared.Added.{Added}
 use Rattle.grouping.specs.declared.Step.{Step}
 use Rattle.grouping.specs.declared.Step.the-variants.{Hold}
-use Rattle.lane.specs.Lane.{held, holding}
-use Rattle.grouping.specs.Packets.{fault, userOctets}
+use Rattle.lane.specs.Lane.{held, holding, closed}
+use Rattle.grouping.specs.Packets.{termsOf, fault, userOctets}
 use Rattle.grouping.specs.Grouping.{repeats, goesOn}
 use Rattle.grouping.specs.Plans.{holdPlan, groupingPlan, acceptedPlan, packetPlan}
 use Rattle.grouping.specs.Steps.{laneAfter}
-use Rattle.lane.proofs.Fine.{is-fine}
-use Rattle.intake.specs.declared.State.{State}
+use Rattle.lane.proofs.Fine.{is-fine, none-held}
+use Rattle.state.specs.declared.State.{State}
 use Rattle.intake.specs.declared.Answer.the-variants.{Held}
-use Rattle.intake.specs.State.{laneAt, others}
+use Rattle.state.specs.State.{laneAt, within}
 use Rattle.intake.specs.Calls.{settle}
 use Rattle.intake.specs.After.{marksAfter, poolAfter, userOf, taking, takingPool}
 use Rattle.demands.specs.Runs.{Intake, begun, Call, opens, takes, closes, toPacket, reply, after, run, next}
-use Rattle.demands.specs.Order.{wouldHold}
+use Rattle.demands.specs.Order.{wouldHold, wouldGroup}
 use Rattle.demands.specs.Demand3.{markAt, Belongs, marksFor, placeFor, OctetsStay, UsedAgain}
-use Rattle.demands.proofs.Sound.{Sound, lane-fine, opened-small, need-open}
+use Rattle.demands.proofs.Sound.{Sound, lane-fine, opened-small}
 use Rattle.demands.proofs.Steps.{Stepped, refuses, repeats as again, strays, ends, holds, stepped}
 use Rattle.demands.proofs.Calls.{after-sound, reached-sound}
 use Rattle.demands.proofs.View.{Slot, stepFor, after-size, run-size, settled, took-reply, took-slot}
@@ -73,29 +74,32 @@ octets-stay start calls (takes i p out) at other =
     (λ j low. other j (rw (lane-after x k (run-size (begun start) calls ∙ start .whole) i p out) low))
 
 -- ---- a packet that needs a block, and has the room
-module _ (l : Lane) (p : List ℕ) (room o w : ℕ) (most : w ≤ l .settings .cap) (beside : max w (l .settings .share) + o ≤ 64) where
-  -- the step holds n octets, in w blocks
-  abbrev HoldsThen : Step → Type 0
-  HoldsThen d = (a : Added) × ((on : Bool) × ((n : ℕ) × ((d ≡ Hold a on n) × (blocksFor n ≡ w))))
+module _ (ls : List Lane) (i : ℕ) (p : List ℕ) (room : ℕ) where
+  abbrev own : Lane
+  own = getD ls i closed
 
-  fits-then : l .opened ≡ true → (a : Added) (on : Bool) (n : ℕ) → blocksFor n ≡ w → HoldsThen (settle l o (holdPlan (l .settings) a on n))
+  -- the step holds n octets
+  abbrev HoldsThen : ℕ → Step → Type 0
+  HoldsThen n d = (a : Added) × ((on : Bool) × (d ≡ Hold a on n))
+
+  fits-then : (a : Added) (on : Bool) (n : ℕ) → blocksFor n ≤ own .settings .cap → within (set ls i (holding own n)) ≡ true → HoldsThen n (settle ls i (holdPlan (own .settings) a on n))
   unfolding holdPlan settle
-  fits-then open′ a on n e =
-      (a, (on, (n, (simp (need-open (holding l n) open′, le-ltb (l .settings .cap) (blocksFor n) (omega (arith, most, e)), le-leb (max (blocksFor n) (l .settings .share) + o) 64 (rw e beside)), e))))
+  fits-then a on n most beside = (a, (on, simp (le-ltb (own .settings .cap) (blocksFor n) most, beside)))
 
-  holds-then : l .opened ≡ true → fault (l .settings) p ≡ 0 → repeats l (count p) ≡ false → l .packets < 262144 → wouldHold l p ≡ w → 0 < w → HoldsThen (settle l o (packetPlan l p room))
-  unfolding packetPlan acceptedPlan groupingPlan wouldHold
-  holds-then open′ sound new few e some =
-      let user : ℕ = userOctets (l .settings) p in
-      simp (open′, sound, new, lt-leb 262144 (l .packets) few)
+  holds-then : own .opened ≡ true → fault (termsOf own) p ≡ 0 → repeats own (count p) ≡ false → own .packets < mostPackets
+      → wouldHold own p ≤ own .settings .cap → within (set ls i (holding own (wouldGroup own p))) ≡ true → 0 < wouldHold own p → HoldsThen (wouldGroup own p) (settle ls i (packetPlan own p room))
+  unfolding packetPlan acceptedPlan groupingPlan wouldGroup
+  holds-then open′ sound new few most beside some =
+      let user : ℕ = userOctets (own .settings) p in
+      simp (open′, sound, new, lt-leb mostPackets (own .packets) few)
       (either (eqb (flags p) 1)
-      (λ f. let z = eqb-true (flags p) 1 f in simp z (fits-then open′ _ false user (simp z at e)))
-      (λ f. either (eqb (flags p) 0 && goesOn l (flags p) (count p))
-      (λ h. let g = both (eqb (flags p) 0) (goesOn l (flags p) (count p)) h in
+      (λ f. let z = eqb-true (flags p) 1 f in simp z (fits-then _ false user (simp z at most) (simp z at beside)))
+      (λ f. either (eqb (flags p) 0 && goesOn own (flags p) (count p))
+      (λ h. let g = both (eqb (flags p) 0) (goesOn own (flags p) (count p)) h in
       let z = eqb-true (flags p) 0 (g .0) in
-      let on : goesOn l 0 (count p) ≡ true = rw z at (g .1) in
-      simp (z, on) (fits-then open′ _ true (l .octets + user) (simp (z, on) at e)))
-      (λ h. absurd (omega (arith, simp (f, h) at e, some)))))
+      let on : goesOn own 0 (count p) ≡ true = rw z at (g .1) in
+      simp (z, on) (fits-then _ true (own .octets + user) (simp (z, on) at most) (simp (z, on) at beside)))
+      (λ h. absurd (omega (arith, simp (f, h) at some, none-held)))))
 
 -- a free block is free among the marks in which the lane looks
 still-free : (i : ℕ) (marks : List ℕ) (b : ℕ) → b < length marks → getD marks b 0 ≡ free → getD (freed marks i) b 0 ≡ free
@@ -120,11 +124,11 @@ used-again start calls c b j p out its is-free (open′, sound, few, fits) new (
     let k : Sound s = after-sound (run (begun start) calls) (reached-sound start calls) c in
     let sized : length (y .pool) ≡ 16384 = after-size (run (begun start) calls) c ∙ run-size (begun start) calls ∙ start .whole in
     let w : ℕ = wouldHold (laneAt s j) p in
-    let h = holds-then (laneAt s j) p (length out) (others (s .lanes) j) w most beside open′ sound new few refl (omega (arith, due)) in
-    let step : stepFor y j p out ≡ Hold (h .0) (h .1 .0) (h .1 .1 .0) = settled y k sized j p out ∙ h .1 .1 .1 .0 in
-    let told : reply y (takes j p out) ≡ toPacket (Held (h .0 .missing) (h .0 .broke)) out = took-reply y j p out ∙ rw step in
-    let holds′ : held (laneAt (after y (takes j p out) .state) j) ≡ w = rw (lane-after y k sized j p out, step) (h .1 .1 .1 .1) in
-    let lowest = lowest-at y k j p out out (h .0 .missing) (h .0 .broke) b (its .0) told in
+    let h = holds-then (s .lanes) j p (length out) open′ sound new few most beside (omega (arith, due)) in
+    let step : stepFor y j p out ≡ Hold (h .0) (h .1 .0) (wouldGroup (laneAt s j) p) = settled y k sized j p out ∙ h .1 .1 in
+    let told : reply y (takes j p out) ≡ toPacket (Held (h .0 .missing) (h .0 .«given_up»)) out = took-reply y j p out ∙ rw step in
+    let holds′ : held (laneAt (after y (takes j p out) .state) j) ≡ w = rw (lane-after y k sized j p out, step) refl in
+    let lowest = lowest-at y k j p out out (h .0 .missing) (h .0 .«given_up») b (its .0) told in
     let seen : isFree (getD (marksFor s j p) b 0) ≡ true = eq-eqb (getD (marksFor s j p) b 0) free (looked-free s k j p b (its .0) is-free) in
     let bears : markAt (after y (takes j p out) .state) b ≡ mark j (placeFor s j p b) = lowest ∙ rw holds′ (simp (seen, lt-ltb (placeFor s j p b) w due)) in
     let few-places : placeFor s j p b < 64 = omega (arith, due, most, is-fine (laneAt s j) (lane-fine s k j) .legal open′ .cap) in

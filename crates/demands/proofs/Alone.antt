@@ -1,15 +1,14 @@
 -- A source within its share is answered as if alone. The shared run and the run of its own calls go side by side: the lane looks the same in both, and in
 -- the second no other lane is open. What is done is planned from the lane alone; where the plan asks for room, it asks for the share, and a share that
 -- was promised fits in both.
-use Prim.Native.Nat.{ℕ, zero, suc, _+_, _≤_}
+use Prim.Native.Nat.{ℕ, zero, suc, _≤_, _<_}
 use mathlib.Core.Path.{_≡_, refl, sym, ap, ap₂, subst, _∙_}
 use mathlib.Core.Bool.{true, false}
 use mathlib.Core.List.{List, [], _∷_}
 use native.Mathlib.Omega.{arith}
-use borrow.Author.Tests.{eqb-true, eqb-false, le-leb, le-ltb, ltb-false}
-use lib.Dec.{ltb, leb}
+use borrow.Author.Tests.{eqb-true, eqb-false, ltb-false}
+use lib.Dec.{ltb}
 use lib.ListN.{length, getD, set, replicate}
-use lib.Seq.{set-set}
 use Rattle.octets.specs.Output.{unlessRefused, outputAfter}
 use Rattle.octets.proofs.Order.{either}
 use Rattle.record.specs.Record.{recordOctets}
@@ -20,22 +19,22 @@ use Rattle.lane.specs.declared.Lane.{Lane}
 use Rattle.grouping.specs.declared.Step.{Step}
 use Rattle.grouping.specs.declared.Step.the-variants.{Hold}
 use Rattle.grouping.specs.declared.Plan.{Plan}
-use Rattle.lane.specs.Lane.{closed, held, need, illegal, creditOf, holding}
+use Rattle.lane.specs.Lane.{closed, held, illegal, creditOf, holding}
 use Rattle.grouping.specs.Packets.{userData}
 use Rattle.grouping.specs.Plans.{packetPlan}
 use Rattle.grouping.specs.Steps.{laneAfter}
-use Rattle.lane.proofs.Fine.{is-fine, is-legal}
+use Rattle.lane.proofs.Fine.{is-fine, is-legal, none-held}
 use Rattle.grouping.proofs.Planned.{Planned, planned, refuses, repeats, strays, ends, holds}
-use Rattle.intake.specs.declared.State.{State}
-use Rattle.intake.specs.State.{freshState, laneAt, total, others}
-use Rattle.intake.specs.Calls.{openingRefusal, closingRefusal, settle}
-use Rattle.intake.specs.After.{openedWith, opening, closing, closingOut, answerOf, taking}
+use Rattle.state.specs.declared.State.{State}
+use Rattle.state.specs.State.{freshState, laneAt, total, others, within}
+use Rattle.state.proofs.Soundness.{opened-small}
+use Rattle.state.proofs.Within.{need-closed, need-open, others-same, share-fits, alone-fits}
+use Rattle.intake.specs.Calls.{openedWith, openingRefusal, closingRefusal, settle}
+use Rattle.intake.specs.After.{opening, closing, closingOut, answerOf, taking}
 use Rattle.demands.specs.Runs.{Intake, Start, begun, Call, opens, takes, closes, Reply, toOpening, toPacket, reply, after, run, replies, laneOf, names, own, repliesTo}
 use Rattle.demands.specs.Runs as runs
 use Rattle.demands.specs.Demand3.{StaysInShare, NoneUnpromised, AsAlone}
-use Rattle.demands.proofs.Lanes.{need-closed, total-at}
-use Rattle.demands.proofs.Sound.{Sound, not-unsound, fresh, lane-fine, need-open, unless}
-use Rattle.demands.proofs.Order.{share-fits}
+use Rattle.demands.proofs.Sound.{Sound, not-unsound, fresh, lane-fine, unless}
 use Rattle.demands.proofs.Calls.{after-sound}
 use Rattle.demands.proofs.View.{Slot, slotIn, slotAfter, outFrom, stepFor, without, after-size, settled, took-reply, took-slot, opened-slot, closed-slot, other-slot}
 
@@ -44,20 +43,25 @@ abbrev InShare : Lane → Type 0
 InShare l = held l ≤ l .settings .share
 
 -- ---- a plan is settled alike beside others as beside none, where the lane then holds no more than its share and the share fits beside the others
-same-step : (l : Lane) (p : List ℕ) (room o : ℕ) {d : Plan} → Planned l p room d → (l .opened ≡ true → l .settings .share + o ≤ 64) → InShare (laneAfter l (settle l 0 d)) → settle l o d ≡ settle l 0 d
-unfolding settle laneAfter
-same-step l p room o (refuses n few h) fits w = refl
-same-step l p room o repeats fits w = refl
-same-step l p room o (strays a on f g) fits w = refl
-same-step l p room o (ends a on n op f g e h) fits w = refl
-same-step l p room o (holds a on n op f g e h t) fits w =
-    let good = is-fine (laneAfter l (Hold a on n)) g in
-    let asks : ℕ = need (holding l n) in
-    let larger = need-open (holding l n) op in
-    let alone : leb (asks + 0) 64 ≡ true = le-leb (asks + 0) 64 (omega (arith, good .within, good .legal op .share, good .legal op .cap)) in
-    let few : blocksFor n ≤ l .settings .share = simp alone at w in
-    let beside : leb (asks + o) 64 ≡ true = le-leb (asks + o) 64 (omega (arith, fits op)) in
-    simp (alone, beside)
+module _ (xs ys : List Lane) (i : ℕ) (same : getD xs i closed ≡ getD ys i closed) (fits : within xs ≡ true) (none : others ys i ≡ 0) (eight : length ys ≡ 8) where
+  abbrev theirs : Lane
+  theirs = getD ys i closed
+
+  same-step : (p : List ℕ) (room : ℕ) {d : Plan} → Planned theirs p room d → InShare (laneAfter theirs (settle ys i d)) → settle xs i d ≡ settle ys i d
+  unfolding settle laneAfter
+  same-step p room (refuses n few h) w = refl
+  same-step p room repeats w = refl
+  same-step p room (strays a on f g) w = refl
+  same-step p room (ends a on n op f g e h) w = refl
+  same-step p room (holds a on n op f g e h t) w =
+      let good = is-fine (laneAfter theirs (Hold a on n)) g in
+      let small : i < 8 = opened-small ys eight i op in
+      let alone : within (set ys i (holding theirs n)) ≡ true =
+      alone-fits ys i none (omega (arith, small, eight)) (holding theirs n) (omega (arith, need-open (holding theirs n) op, good .within, good .legal op .share, good .legal op .cap)) in
+      let few : blocksFor n ≤ theirs .settings .share = simp alone at w in
+      let beside : within (set xs i (holding (getD xs i closed) n)) ≡ true =
+      share-fits xs i (rw same op) n (rw same few) fits in
+      simp (alone, beside)
 
 -- ---- the two runs side by side: x shared, y alone
 record Alike (i : ℕ) (x y : Intake) : Type 0 where
@@ -78,12 +82,13 @@ module _ (i : ℕ) (x y : Intake) (k : Alike i x y) where
   module _ (p out : List ℕ) where
     same-decision : InShare (laneAt (after y (takes i p out) .state) i) → stepFor x i p out ≡ stepFor y i p out
     same-decision w =
-        let l : Lane = laneAt (x .state) i in
-        let theirs : stepFor y i p out ≡ settle l 0 (packetPlan l p (length out)) = settled y (k .alone) (k .size-alone) i p out ∙ rw (k .no-other, same-lane) in
-        let then : InShare (laneAfter l (settle l 0 (packetPlan l p (length out)))) =
-        subst InShare (ap (λ (v : Slot). v .lane) (took-slot y (k .alone) (k .size-alone) i p out) ∙ ap₂ laneAfter (sym same-lane) theirs) w in
+        let l : Lane = laneAt (y .state) i in
+        let theirs : stepFor y i p out ≡ settle (y .state .lanes) i (packetPlan l p (length out)) = settled y (k .alone) (k .size-alone) i p out in
+        let then : InShare (laneAfter l (settle (y .state .lanes) i (packetPlan l p (length out)))) =
+        subst InShare (ap (λ (v : Slot). v .lane) (took-slot y (k .alone) (k .size-alone) i p out) ∙ ap (laneAfter l) theirs) w in
         settled x (k .shared) (k .size) i p out
-        ∙ same-step l p (length out) (others (x .state .lanes) i) (planned l p (length out) (lane-fine (x .state) (k .shared) i)) (share-fits (x .state) (k .shared) i) then
+        ∙ ap (λ (l : Lane). settle (x .state .lanes) i (packetPlan l p (length out))) same-lane
+        ∙ same-step (x .state .lanes) (y .state .lanes) i same-lane (k .shared .room) (k .no-other) (k .alone .shape .0) p (length out) (planned l p (length out) (lane-fine (y .state) (k .alone) i)) then
         ∙ sym theirs
 
     taken-together : InShare (laneAt (after y (takes i p out) .state) i) → Together (takes i p out)
@@ -95,17 +100,12 @@ module _ (i : ℕ) (x y : Intake) (k : Alike i x y) where
         )
 
   module _ (settings : Settings) where
-    abbrev shares : ℕ
-    shares = settings .share + total (x .state .lanes)
-
     -- alone, a share that is legal can be promised
-    promised : ltb 7 i ≡ false → laneAt (y .state) i .opened ≡ false → illegal settings ≡ false → ltb 64 (settings .share + total (y .state .lanes)) ≡ false
-    unfolding need
-    promised small shut legal =
-        let none : need (laneAt (y .state) i) ≡ 0 = simp shut in
+    promised : ltb 7 i ≡ false → illegal settings ≡ false → within (set (y .state .lanes) i (openedWith settings)) ≡ true
+    promised small legal =
         let law = is-legal settings legal in
-        le-ltb 64 (settings .share + total (y .state .lanes))
-        (omega (arith, none, total-at (y .state .lanes) i (omega (arith, k .alone .shape .0, ltb-false 7 i small)), k .no-other, law .share, law .cap))
+        alone-fits (y .state .lanes) i (k .no-other) (omega (arith, k .alone .shape .0, ltb-false 7 i small)) (openedWith settings)
+        (omega (arith, need-open (openedWith settings) refl, none-held, law .share, law .cap))
 
     same-opening : (openingRefusal (x .state) i settings 16384 ≡ 23 → ⊥) → openingRefusal (x .state) i settings 16384 ≡ openingRefusal (y .state) i settings 16384
     unfolding openingRefusal
@@ -114,9 +114,9 @@ module _ (i : ℕ) (x y : Intake) (k : Alike i x y) where
         (either (ltb 7 i) (λ a. simp a)
         (λ a. simp a (either (laneAt (y .state) i .opened) (λ b. simp b)
         (λ b. simp b (either (illegal settings) (λ c. simp c)
-        (λ c. simp (c, promised a b c) (either (ltb 64 shares)
-        (λ d. absurd (never (simp (not-unsound (x .state) (k .shared), same-lane, a, b, c, d))))
-        (λ d. simp d))))))))
+        (λ c. simp (c, promised a c) (either (within (set (x .state .lanes) i (openedWith settings)))
+        (λ d. simp d)
+        (λ d. absurd (never (simp (not-unsound (x .state) (k .shared), same-lane, a, b, c, d)))))))))))
 
     opened-together : (reply x (opens i settings) ≡ toOpening 23 → ⊥) → Together (opens i settings)
     unfolding reply opening
@@ -148,10 +148,6 @@ together x y (takes i p out) k w never = taken-together i x y k p out w
 together x y (closes i out) k w never = closed-together i x y k out
 
 -- its own calls open no other lane
-others-same : (ls : List Lane) (i : ℕ) (l : Lane) → others (set ls i l) i ≡ others ls i
-unfolding others
-others-same ls i l = ap total (set-set ls i l closed)
-
 still-no-other : (y : Intake) (c : Call) → others (after y c .state .lanes) (laneOf c) ≡ others (y .state .lanes) (laneOf c)
 unfolding after opening closing taking
 still-no-other y (opens i settings) = unless (λ (t : State). others (t .lanes) i ≡ others (y .state .lanes) i) (openingRefusal (y .state) i settings (length (y .pool))) refl (λ e. others-same (y .state .lanes) i _)

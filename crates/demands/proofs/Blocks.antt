@@ -15,8 +15,8 @@ use Rattle.marks.proofs.Counts.{counts-one, counts-none}
 use Rattle.marks.proofs.Sums.{places-within, laneBlocks, lanes-within, AtLeast, sum-within}
 use Rattle.marks.proofs.Matched.{Matched, matched}
 use Rattle.lane.specs.Lane.{held}
-use Rattle.intake.specs.declared.State.{State}
-use Rattle.intake.specs.State.{laneAt}
+use Rattle.state.specs.declared.State.{State}
+use Rattle.state.specs.State.{laneAt}
 use Rattle.demands.specs.Groups.{HeldPlace}
 use Rattle.demands.proofs.Lanes.{held-at}
 use Rattle.demands.proofs.Sound.{Sound}

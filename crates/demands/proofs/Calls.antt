@@ -1,26 +1,26 @@
 -- Every call leaves a sound state sound, and every state its shape: a call that is refused leaves all as it was, and one that isn't passed the tests
 -- that the new lane needs. So every state that a run from the fresh start reaches is sound.
-use Prim.Native.Nat.{ℕ, _+_, _≤_, _<_}
+use Prim.Native.Nat.{ℕ, _≤_, _<_}
 use mathlib.Core.Path.{_≡_, refl, _∙_}
 use mathlib.Core.Bool.{true, false, not}
 use mathlib.Core.List.{List, [], _∷_}
 use native.Mathlib.Omega.{arith}
 use borrow.Author.Tests.{ltb-false, not-false}
 use lib.Dec.{ltb}
-use lib.ListN.{length, length-set}
+use lib.ListN.{length, set, length-set}
 use Rattle.lane.specs.declared.Settings.{Settings}
 use Rattle.octets.specs.Octets.{one}
 use Rattle.lane.specs.Lane.{closed, illegal, fine}
 use Rattle.lane.proofs.Fine.{Legal, is-legal, is-fine, fine-is, none-held}
 use Rattle.grouping.proofs.Accepted.{passes}
-use Rattle.intake.specs.declared.State.{State}
-use Rattle.intake.specs.State.{laneAt, total, unsound}
-use Rattle.intake.specs.Calls.{openingRefusal, closingRefusal, packetStep}
-use Rattle.intake.specs.After.{openedWith, releasedFrom, opening, closing, taking}
-use Rattle.intake.proofs.Soundness.{closed-fine}
+use Rattle.state.specs.declared.State.{State}
+use Rattle.state.specs.State.{laneAt, within, unsound}
+use Rattle.state.proofs.Within.{closes as within-closed}
+use Rattle.intake.specs.Calls.{openedWith, openingRefusal, closingRefusal, packetStep}
+use Rattle.intake.specs.After.{releasedFrom, opening, closing, taking}
+use Rattle.state.proofs.Soundness.{closed-fine}
 use Rattle.demands.specs.Runs.{Shaped, Intake, Start, begun, Call, opens, takes, closes, after, run}
-use Rattle.demands.proofs.Lanes.{need-closed, total-at}
-use Rattle.demands.proofs.Sound.{Sound, fresh, lane-fine, opened-small, room-now, need-open, unless}
+use Rattle.demands.proofs.Sound.{Sound, fresh, lane-fine, opened-small, unless}
 use Rattle.demands.proofs.Marks.{released-length, marks-length, emptied}
 use Rattle.demands.proofs.Steps.{stepped, after-step}
 
@@ -61,15 +61,15 @@ opened-fine settings e =
 
 module _ (s : State) (k : Sound s) (i : ℕ) where
   module _ (settings : Settings) (octets : ℕ) where
-    pub opened-at : openingRefusal s i settings octets ≡ 0 → (i < 8) × (laneAt s i .opened ≡ false) × (illegal settings ≡ false) × (settings .share + total (s .lanes) ≤ 64)
+    pub opened-at : openingRefusal s i settings octets ≡ 0 → (i < 8) × (laneAt s i .opened ≡ false) × (illegal settings ≡ false) × (within (set (s .lanes) i (openedWith settings)) ≡ true)
     unfolding openingRefusal
     opened-at e =
         let a = passes (unsound s octets) 24 _ (λ t. omega arith) e in
         let b = passes (ltb 7 i) 11 _ (λ t. omega arith) (a .1) in
         let c = passes (laneAt s i .opened) 21 _ (λ t. omega arith) (b .1) in
         let d = passes (illegal settings) 22 _ (λ t. omega arith) (c .1) in
-        let f = passes (ltb 64 (settings .share + total (s .lanes))) 23 0 (λ t. omega arith) (d .1) in
-        (omega (arith, ltb-false 7 i (b .0)), c .0, d .0, ltb-false _ _ (f .0))
+        let f = passes (not (within (set (s .lanes) i (openedWith settings)))) 23 0 (λ t. omega arith) (d .1) in
+        (omega (arith, ltb-false 7 i (b .0)), c .0, d .0, not-false _ (f .0))
 
     pub opening-sound : Sound (opening s i settings octets .state)
     unfolding opening releasedFrom
@@ -77,8 +77,7 @@ module _ (s : State) (k : Sound s) (i : ℕ) where
         unless Sound (openingRefusal s i settings octets) k (λ e.
         let o = opened-at e in
         let shut : laneAt s i .grouped ≡ false = is-fine (laneAt s i) (lane-fine s k i) .shut (o .1) in
-        simp shut at (emptied s k i (o .0) (openedWith settings) (opened-fine settings (o .2))
-        (omega (arith, need-open (openedWith settings) refl, none-held, total-at (s .lanes) i (omega (arith, k .shape .0, o .0)), o .3)) refl))
+        simp shut at (emptied s k i (o .0) (openedWith settings) (opened-fine settings (o .2)) (o .3) refl))
 
   pub closed-at : (octets room : ℕ) → closingRefusal s i octets room ≡ 0 → laneAt s i .opened ≡ true
   unfolding closingRefusal
@@ -95,7 +94,7 @@ module _ (s : State) (k : Sound s) (i : ℕ) where
   closing-sound octets room =
       unless Sound (closingRefusal s i octets room) k (λ e.
       let h : i < 8 = closed-small octets room e in
-      emptied s k i h closed closed-fine (omega (arith, need-closed, room-now s k i h)) refl)
+      emptied s k i h closed closed-fine (within-closed (s .lanes) i (k .room)) refl)
 
   pub taking-sound : (p : List ℕ) (octets room : ℕ) → Sound (taking s i p octets room .state)
   unfolding taking

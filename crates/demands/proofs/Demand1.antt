@@ -5,7 +5,7 @@ use Rattle.demands.specs.Entry.{Demand1}
 use Rattle.demands.specs.Functions.{the-entry, function}
 use Rattle.demands.specs.Demand1.{Permitted, EachEntry, EachFunction}
 use Rattle.demands.proofs.Promised.{promised}
-use Rattle.demands.proofs.EachEntry.{reads-packet, reads-at, writes-space, writes-encapsulation, reads-record, reads-record-file, writes-record}
+use Rattle.demands.proofs.EachEntry.{reads-packet, looks-at, writes-space, writes-encapsulation, reads-record, reads-record-file, writes-record}
 use Rattle.demands.proofs.EachEntry.{reads-packet-C, writes-space-C, writes-encapsulation-C, reads-record-C, reads-record-file-C, writes-record-C}
 use Rattle.demands.proofs.LaneEntries.{opens-lane, takes-packet, takes-packet-C, closes-lane}
 use Rattle.demands.proofs.Keeps.{keeps}
@@ -14,7 +14,7 @@ use Rattle.demands.proofs.OneAnswer.{one-answers}
 
 as-asked : (n : Name) → Demand1 (entry n)
 as-asked name.read-packet = reads-packet
-as-asked name.packet-at = reads-at
+as-asked name.look-at = looks-at
 as-asked name.write-space = writes-space
 as-asked name.write-encapsulation = writes-encapsulation
 as-asked name.read-record = reads-record

@@ -19,7 +19,7 @@ use Rattle.record.proofs.RoundTrip.{same-back, read-output, write-read, accepte
 use Rattle.writing.proofs.Shortest.{is-shortest}
 use Rattle.writing.proofs.RoundTrips.{space-output, encap-output, space-written, encap-written}
 use Rattle.lane.proofs.Fine.{Tallies, is-fine}
-use Rattle.intake.specs.State.{laneAt}
+use Rattle.state.specs.State.{laneAt}
 use Rattle.demands.specs.Runs.{Intake, begun, closes, toClosing, run, laneOf}
 use Rattle.demands.specs.Rule.{units, credit}
 use Rattle.demands.specs.Past.{Past, shut, since, packetsOf, isRefused, pastOf, unitsTold}

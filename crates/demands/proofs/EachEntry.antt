@@ -14,9 +14,11 @@ use Rattle.packet.specs.declared.Packet.{Packet}
 use Rattle.packet.specs.declared.Packet.the-variants as packet
 use Rattle.packet.specs.Space as space
 use Rattle.packet.specs.Encapsulation as encap
-use Rattle.reading.specs.Reading.{isSpace, refusal, fields, reading}
+use Rattle.reading.specs.Reading.{isSpace, readingTests, refusal, fields, reading}
 use Rattle.packet.specs.Told as packetTold
 use Rattle.reading.proofs.Answers as readingAnswers
+use Rattle.walk.specs.Walk.{nextOrHere}
+use Rattle.walk.proofs.Looked.{one-found}
 use Rattle.writing.specs.declared.Written.{Written}
 use Rattle.writing.specs.declared.Written.the-variants as written
 use Rattle.writing.specs.Space.{spaceOctets, spaceRefusal}
@@ -37,7 +39,7 @@ use Rattle.record.proofs.Answers.{one-read, one-written, one-file}
 use Rattle.branmuslin.specs.Lent.{packetNumbers, recordsAfter, indexAfter}
 use Rattle.demands.specs.Entry.{Entry, Demand1}
 use Rattle.demands.specs.Entries.{SpacePacket, EncapsulationPacket, RecordGiven}
-use Rattle.demands.specs.Entries.{readPacket, packetAt, writeSpace, writeEncapsulation, readRecord, readRecordFile, writeRecord}
+use Rattle.demands.specs.Entries.{readPacket, lookAt, writeSpace, writeEncapsulation, readRecord, readRecordFile, writeRecord}
 use Rattle.demands.specs.Exported.{readPacketC, writeSpaceC, writeEncapsulationC, readRecordC, readRecordFileC, writeRecordC}
 use Rattle.demands.proofs.Refusals.{demand, leads, left-alone}
 
@@ -143,11 +145,18 @@ pub reads-packet : Demand1 readPacket
 unfolding reading
 reads-packet = reads packetTold.told (readPacket .tests) reading read-ordered read-answer (λ s a b. readingAnswers.one-answer a b s)
 
-pub reads-at : Demand1 packetAt
+look-ordered : (s : List ℕ) → refusal s ≡ first 0 (readingTests s)
+unfolding refusal
+look-ordered s = refl
+
+pub looks-at : Demand1 lookAt
 unfolding reading
-reads-at =
-    reads packetTold.told (packetAt .tests) (λ g. reading (drop (g .at) (g .octets)))
-    (λ g. read-ordered (drop (g .at) (g .octets))) (λ g. read-answer (drop (g .at) (g .octets))) (λ g a b. readingAnswers.one-answer a b (drop (g .at) (g .octets)))
+looks-at = demand lookAt (λ g. refusal (drop (g .at) (g .octets))) (λ g. look-ordered (drop (g .at) (g .octets)))
+    (λ g. let s = drop (g .at) (g .octets) in
+    let p = read-answer s in
+    (record { packet = p .0; refused = refusal s; next = nextOrHere (g .octets) (g .at) }, (tt, record { tells = p .1; number = refl; place = refl })))
+    (λ g a l p. (p .number, λ r. refl))
+    (λ g a b l m p q. (one-found (g .octets) (g .at) a b p q, refl))
 
 pub reads-packet-C : Demand1 readPacketC
 unfolding refusal
@@ -163,10 +172,10 @@ unfolding writerTells
 write-answer n text = either (eqb n 0) (λ t. (written.Octets (length text), simp t refl)) (λ f. (written.Refused n, simp f refl))
 
 abbrev spaceNumber : SpacePacket → ℕ
-spaceNumber g = spaceRefusal (g .kind) (g .secondary) (g .apid) (g .flags) (g .count) (length (g .field)) (length (g .out))
+spaceNumber g = spaceRefusal (g .packetType) (g .secondary) (g .apid) (g .flags) (g .count) (length (g .field)) (length (g .out))
 
 abbrev spaceText : SpacePacket → List ℕ
-spaceText g = spaceOctets (g .kind) (g .secondary) (g .apid) (g .flags) (g .count) (g .field)
+spaceText g = spaceOctets (g .packetType) (g .secondary) (g .apid) (g .flags) (g .count) (g .field)
 
 space-ordered : (g : SpacePacket) → spaceNumber g ≡ first 0 (writeSpace .tests g)
 unfolding spaceRefusal

@@ -22,8 +22,8 @@ use Rattle.grouping.specs.Packets.{fault, userData}
 use Rattle.grouping.specs.Grouping.{repeats, missingBefore, breaks, givesUp, goesOn}
 use Rattle.grouping.specs.Plans.{holdPlan, unitPlan, groupingPlan, acceptedPlan, packetPlan}
 use Rattle.grouping.specs.Steps.{laneAfter}
-use Rattle.intake.specs.declared.State.{State}
-use Rattle.intake.specs.State.{freshState, laneAt, total, others, every, sound, unsound}
+use Rattle.state.specs.declared.State.{State}
+use Rattle.state.specs.State.{freshState, laneAt, total, within, every, sound, unsound}
 use Rattle.intake.specs.Calls.{openingRefusal, closingRefusal, settle, packetStep}
 use Rattle.intake.specs.After.{opening, closing, closingOut, releasedFrom, grown, marksAfter, poolAfter, groupOf, outAfter, userOf, taking, takingPool, takingOut}
 use Rattle.demands.specs.Runs.{Intake, begun, Call, opens, takes, closes, Reply, toOpening, toPacket, toClosing, reply, after, run, replies, own, repliesTo}
@@ -112,7 +112,7 @@ same-free x size (c ∷ calls) =
 -- ---- computed
 -- whoever unfolds `calling` unfolds all that its own line names, by which a call computes; and `running`, a run
 calling : Unit {0}
-unfolding one put outputAfter header size readingTests refusal content spaceOctets possible recordOctets blocksFor find granted freedMark found holds eachHolds count sum matching place stored gathered need illegal talliesPossible fine fault userData repeats missingBefore breaks givesUp goesOn holdPlan unitPlan groupingPlan acceptedPlan packetPlan laneAfter freshState total others every sound unsound openingRefusal closingRefusal settle packetStep opening closing closingOut releasedFrom grown marksAfter poolAfter groupOf outAfter taking takingPool takingOut
+unfolding one put outputAfter header size readingTests refusal content spaceOctets possible recordOctets blocksFor find granted freedMark found holds eachHolds count sum matching place stored gathered need illegal talliesPossible fine fault userData repeats missingBefore breaks givesUp goesOn holdPlan unitPlan groupingPlan acceptedPlan packetPlan laneAfter freshState total within every sound unsound openingRefusal closingRefusal settle packetStep opening closing closingOut releasedFrom grown marksAfter poolAfter groupOf outAfter taking takingPool takingOut
 calling = tt
 
 unfoldable pub running : Unit {0}

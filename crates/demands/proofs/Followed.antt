@@ -17,9 +17,9 @@ use Rattle.record.specs.Record.{recordOctets}
 use Rattle.lane.specs.declared.Settings.{Settings}
 use Rattle.lane.specs.Lane.{closed as closedLane, creditOf}
 use Rattle.lane.proofs.Fine.{is-fine}
-use Rattle.intake.specs.State.{laneAt, others}
-use Rattle.intake.specs.Calls.{openingRefusal, closingRefusal}
-use Rattle.intake.specs.After.{openedWith, opening, closing, closingOut}
+use Rattle.state.specs.State.{laneAt}
+use Rattle.intake.specs.Calls.{openedWith, openingRefusal, closingRefusal}
+use Rattle.intake.specs.After.{opening, closing, closingOut}
 use Rattle.intake.specs.declared.Answer.the-variants.{Refused, Repeat, Stray, Held, Unit}
 use Rattle.demands.specs.Runs.{Intake, Start, begun, Call, opens, takes, closes, Reply, toOpening, toPacket, toClosing, reply, after, run, laneOf, names}
 use Rattle.demands.specs.Rule.{Accepted, present, repeats, missing, group, unit, givesUp, answerWith, answerTo, endings, units, missingInAll, broken, lastCount}
@@ -69,7 +69,7 @@ module _ (x : Intake) (k : Sound (x .state)) (size : length (x .pool) ≡ 16384)
       (closing-follows past (slotIn x i) e i (closingRefusal (x .state) i (length (x .pool)) (length out)) out (closed-at (x .state) k i (length (x .pool)) (length out)))
   call-follows (takes i p out) e =
       rw (took-slot x k size i p out, took-reply x i p out, settled x k size i p out)
-      (packet-follows past (slotIn x i) e (is-fine (laneAt (x .state) i) (lane-fine (x .state) k i) .last) i p out (others (x .state .lanes) i))
+      (packet-follows past (slotIn x i) e (is-fine (laneAt (x .state) i) (lane-fine (x .state) k i) .last) i p out (x .state .lanes) i)
 
 -- ---- how often Unit was answered follows the packets that end a unit, by the replies alone
 refused-tells : (r : Reply) → isRefused r ≡ true → (isAccepted r ≡ false) × (isUnit r ≡ false)
@@ -77,15 +77,15 @@ refused-tells (toOpening refusal) e = (refl, refl)
 refused-tells (toClosing refusal out) e = (refl, refl)
 refused-tells (toPacket (Refused number) out) e = (refl, refl)
 refused-tells (toPacket Repeat out) e = absurd (true≢false (sym e))
-refused-tells (toPacket (Stray m gave) out) e = absurd (true≢false (sym e))
-refused-tells (toPacket (Held m gave) out) e = absurd (true≢false (sym e))
-refused-tells (toPacket (Unit n m gave) out) e = absurd (true≢false (sym e))
+refused-tells (toPacket (Stray m givenUp) out) e = absurd (true≢false (sym e))
+refused-tells (toPacket (Held m givenUp) out) e = absurd (true≢false (sym e))
+refused-tells (toPacket (Unit n m givenUp) out) e = absurd (true≢false (sym e))
 
-word-tells : (u g : Option (List ℕ)) (m : ℕ) (gave : Bool) (out : List ℕ)
-    → (isAccepted (toPacket (answerWith u g m gave) out) ≡ true) × (isUnit (toPacket (answerWith u g m gave) out) ≡ present u)
-word-tells (some octets) g m gave out = (refl, refl)
-word-tells none (some octets) m gave out = (refl, refl)
-word-tells none none m gave out = (refl, refl)
+word-tells : (u g : Option (List ℕ)) (m : ℕ) (givenUp : Bool) (out : List ℕ)
+    → (isAccepted (toPacket (answerWith u g m givenUp) out) ≡ true) × (isUnit (toPacket (answerWith u g m givenUp) out) ≡ present u)
+word-tells (some octets) g m givenUp out = (refl, refl)
+word-tells none (some octets) m givenUp out = (refl, refl)
+word-tells none none m givenUp out = (refl, refl)
 
 units-told-follow : (past : Past) (c : Call) (r : Reply) → Right past c r → unitsToldAfter (units (packetsOf past)) c r ≡ units (packetsOf (later past c r))
 unfolding endings one answerTo

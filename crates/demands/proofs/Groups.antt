@@ -21,8 +21,8 @@ use Rattle.grouping.specs.declared.Step.the-variants.{Refuse, Repeat, Stray, Ho
 use Rattle.lane.specs.Lane.{closed, held}
 use Rattle.grouping.specs.Steps.{laneAfter}
 use Rattle.grouping.proofs.Planned.{of-either}
-use Rattle.intake.specs.declared.State.{State}
-use Rattle.intake.specs.State.{laneAt}
+use Rattle.state.specs.declared.State.{State}
+use Rattle.state.specs.State.{laneAt}
 use Rattle.intake.specs.Calls.{openingRefusal, closingRefusal, packetStep}
 use Rattle.intake.specs.After.{releasedFrom, grown, marksAfter, poolAfter, groupOf, userOf, answered, opening, closing, taking, takingPool}
 use Rattle.demands.specs.Groups.{groupIn, Leaves}

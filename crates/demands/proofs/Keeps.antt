@@ -1,6 +1,6 @@
 -- Every public function's code meets its contract: the crates' own theorems, under one statement.
 use Rattle.reading.proofs.read_packet.Met as readPacket
-use Rattle.walk.proofs.packet_at.Met as packetAt
+use Rattle.walk.proofs.look_at.Met as lookAt
 use Rattle.writing.proofs.write_space.Met as writeSpace
 use Rattle.writing.proofs.write_encapsulation.Met as writeEncapsulation
 use Rattle.record.proofs.read_record.Met as readRecord
@@ -21,10 +21,10 @@ use Rattle.lanes.proofs.branmuslin_close_lane.Met as branmuslinCloseLane
 use Rattle.octets.proofs.octet_at.Met as octetAt
 use Rattle.octets.proofs.be16_at.Met as be16At
 use Rattle.octets.proofs.be32_at.Met as be32At
-use Rattle.octets.proofs.put_octets.Met as putOctets
-use Rattle.octets.proofs.put_octet.Met as putOctet
-use Rattle.octets.proofs.put_be16.Met as putBe16
-use Rattle.octets.proofs.put_be32.Met as putBe32
+use Rattle.putting.proofs.put_octets.Met as putOctets
+use Rattle.putting.proofs.put_octet.Met as putOctet
+use Rattle.putting.proofs.put_be16.Met as putBe16
+use Rattle.putting.proofs.put_be32.Met as putBe32
 use Rattle.numbers.proofs.one_if.Met as oneIf
 use Rattle.numbers.proofs.smaller.Met as smallerOf
 use Rattle.numbers.proofs.larger.Met as largerOf
@@ -42,13 +42,14 @@ use Rattle.marks.proofs.free_blocks.Met as freeBlocks
 use Rattle.marks.proofs.marks_match.Met as marksMatch
 use Rattle.pool.proofs.store_octets.Met as storeOctets
 use Rattle.pool.proofs.gather_octets.Met as gatherOctets
-use Rattle.lane.proofs.need_with.Met as needWith
 use Rattle.lane.proofs.need_of.Met as needOf
 use Rattle.lane.proofs.is_illegal.Met as isIllegal
 use Rattle.lane.proofs.is_fine.Met as isFine
 use Rattle.grouping.proofs.plan_packet.Met as planPacket
-use Rattle.intake.proofs.fresh_start.Met as freshStart
-use Rattle.intake.proofs.is_sound.Met as isSound
+use Rattle.state.proofs.fresh_start.Met as freshStart
+use Rattle.state.proofs.is_within.Met as isWithin
+use Rattle.state.proofs.is_sound.Met as isSound
+use Rattle.state.proofs.is_unsound.Met as isUnsound
 use Rattle.lanes.proofs.branmuslin_fresh_start.Met as branmuslinFreshStart
 use Rattle.lanes.proofs.branmuslin_is_sound.Met as branmuslinIsSound
 use Rattle.text.proofs.put.Met as putText
@@ -58,7 +59,9 @@ use Rattle.listing.proofs.list.Met as listAll
 use Rattle.listing.proofs.list_recording.Met as listRecording
 use Rattle.listing.proofs.octets_of.Met as octetsOf
 use Rattle.listing.proofs.written.Met as writtenPart
-use Rattle.replaying.proofs.begin.Met as beginRun
+use Rattle.adler.proofs.adler32.Met as adlerOf
+use Rattle.runfile.proofs.begin.Met as beginRun
+use Rattle.runfile.proofs.call_in.Met as callIn
 use Rattle.replaying.proofs.replay_some.Met as replaySome
 use Rattle.demands.specs.Contract.{Keeps}
 use Rattle.demands.specs.Exported as name
@@ -68,7 +71,7 @@ use Rattle.demands.specs.Functions.{Public, the-entry, function}
 
 of-entry : (n : Name) → Keeps (function (the-entry n))
 of-entry name.read-packet M = readPacket.met
-of-entry name.packet-at M = packetAt.met
+of-entry name.look-at M = lookAt.met
 of-entry name.write-space M = writeSpace.met
 of-entry name.write-encapsulation M = writeEncapsulation.met
 of-entry name.read-record M = readRecord.met
@@ -113,13 +116,14 @@ keeps public.free-blocks M = freeBlocks.met
 keeps public.marks-match M = marksMatch.met
 keeps public.store-octets M = storeOctets.met
 keeps public.gather-octets M = gatherOctets.met
-keeps public.need-with M = needWith.met
 keeps public.need-of M = needOf.met
 keeps public.is-illegal M = isIllegal.met
 keeps public.is-fine M = isFine.met
 keeps public.plan-packet M = planPacket.met
 keeps public.fresh-start M = freshStart.met
+keeps public.is-within M = isWithin.met
 keeps public.is-sound M = isSound.met
+keeps public.is-unsound M = isUnsound.met
 keeps public.branmuslin-fresh-start M = branmuslinFreshStart.met
 keeps public.branmuslin-is-sound M = branmuslinIsSound.met
 keeps public.put M = putText.met
@@ -129,5 +133,7 @@ keeps public.list M = listAll.met
 keeps public.list-recording M = listRecording.met
 keeps public.octets-of M = octetsOf.met
 keeps public.written M = writtenPart.met
+keeps public.adler32 M = adlerOf.met
 keeps public.begin M = beginRun.met
+keeps public.call-in M = callIn.met
 keeps public.replay-some M = replaySome.met

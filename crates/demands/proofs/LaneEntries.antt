@@ -8,7 +8,7 @@ use Rattle.octets.specs.Order.{first}
 use Rattle.octets.specs.Output.{leading}
 use Rattle.grouping.specs.declared.Step.{Step}
 use Rattle.grouping.specs.declared.Step.the-variants.{Refuse, Repeat, Stray, Hold, Unit}
-use Rattle.intake.specs.declared.State.{State}
+use Rattle.state.specs.declared.State.{State}
 use Rattle.intake.specs.declared.Answer.{Answer}
 use Rattle.intake.specs.declared.Answer.the-variants as answer
 use Rattle.intake.specs.declared.Answered.{Answered}

@@ -1,18 +1,18 @@
 -- One lane of the list changes: what that does to the tests and sums over all lanes. Everything follows the list to that lane.
-use Prim.Native.Nat.{ℕ, zero, suc, _+_, _≤_, _<_}
-use mathlib.Core.Path.{_≡_, refl, sym, ap, _∙_}
+use Prim.Native.Nat.{ℕ, zero, suc, _≤_}
+use mathlib.Core.Path.{_≡_, refl, ap}
 use mathlib.Core.Bool.{true}
 use mathlib.Core.List.{List, [], _∷_, map}
 use native.Mathlib.Omega.{arith}
-use lib.ListN.{length, getD, set, List·getD-map}
-use lib.Seq.{set-getD}
+use lib.ListN.{getD, set, List·getD-map}
 use Rattle.octets.proofs.Order.{either, both}
 use Rattle.marks.specs.Blocks.{blocksFor}
 use Rattle.marks.specs.Matching.{sum}
 use Rattle.lane.specs.declared.Lane.{Lane}
 use Rattle.lane.specs.Lane.{closed, held, need, fine}
 use Rattle.lane.proofs.Fine.{is-fine, none-held}
-use Rattle.intake.specs.State.{total, others, every}
+use Rattle.state.specs.State.{total, within, every}
+use Rattle.state.proofs.Within.{most}
 
 -- ---- every lane passes a test
 pub fine-set : (ls : List Lane) → every fine ls ≡ true → (i : ℕ) (l : Lane) → fine l ≡ true → every fine (set ls i l) ≡ true
@@ -20,20 +20,6 @@ unfolding every
 fine-set [] e i l h = refl
 fine-set (x ∷ ls) e zero l h = simp (h, both (fine x) (every fine ls) e .1)
 fine-set (x ∷ ls) e (suc i) l h = simp (both (fine x) (every fine ls) e .0, fine-set ls (both (fine x) (every fine ls) e .1) i l h)
-
--- ---- what the lanes count for
-pub need-closed : need closed ≡ 0
-unfolding need
-need-closed = refl
-
-pub total-set : (ls : List Lane) (i : ℕ) (l : Lane) → i < length ls → total (set ls i l) ≡ need l + others ls i
-unfolding total others
-total-set [] i l h = absurd (omega arith)
-total-set (x ∷ ls) zero l h = omega (arith, need-closed)
-total-set (x ∷ ls) (suc i) l h = omega (arith, total-set ls i l (omega arith))
-
-pub total-at : (ls : List Lane) (i : ℕ) → i < length ls → total ls ≡ need (getD ls i closed) + others ls i
-total-at ls i h = sym (ap total (set-getD ls i closed)) ∙ total-set ls i (getD ls i closed) h
 
 -- ---- what they hold
 pub held-at : (ls : List Lane) (j : ℕ) → getD (map held ls) j 0 ≡ held (getD ls j closed)
@@ -49,7 +35,10 @@ held-needed : (l : Lane) → fine l ≡ true → held l ≤ need l
 unfolding need
 held-needed l h = either (l .opened) (λ o. simp o (omega arith)) (λ o. rw (is-fine l h .nothing (is-fine l h .shut o), none-held) (omega arith))
 
-pub held-within : (ls : List Lane) → every fine ls ≡ true → sum (map held ls) ≤ total ls
+held-most : (ls : List Lane) → every fine ls ≡ true → sum (map held ls) ≤ total ls
 unfolding every sum total
-held-within [] e = omega arith
-held-within (l ∷ ls) e = let p = both (fine l) (every fine ls) e in omega (arith, held-needed l (p .0), held-within ls (p .1))
+held-most [] e = omega arith
+held-most (l ∷ ls) e = let p = both (fine l) (every fine ls) e in omega (arith, held-needed l (p .0), held-most ls (p .1))
+
+pub held-within : (ls : List Lane) → every fine ls ≡ true → within ls ≡ true → sum (map held ls) ≤ 64
+held-within ls e w = omega (arith, held-most ls e, most ls w)

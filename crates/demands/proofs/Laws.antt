@@ -8,7 +8,7 @@ use mathlib.Core.Logic.{_⊎_}
 use native.Mathlib.Omega.{arith}
 use borrow.Author.Tests.{eq-eqb, ne-eqb}
 use lib.Dec.{eqb, ltb}
-use lib.ListN.{length, getD}
+use lib.ListN.{length, getD, set}
 use Rattle.octets.specs.Order.{first}
 use Rattle.octets.specs.Output.{put, outputAfter}
 use Rattle.octets.proofs.Order.{either}
@@ -27,11 +27,11 @@ use Rattle.grouping.specs.Grouping.{missingBefore, goesOn}
 use Rattle.grouping.specs.Steps.{laneAfter}
 use Rattle.lane.proofs.Fine.{is-fine, held-most}
 use Rattle.grouping.proofs.Planned.{of-either}
-use Rattle.intake.specs.declared.State.{State}
-use Rattle.intake.specs.State.{freshState, laneAt, total, sound, unsound}
-use Rattle.intake.specs.Calls.{openingRefusal, closingRefusal, packetStep}
+use Rattle.state.specs.declared.State.{State}
+use Rattle.state.specs.State.{freshState, laneAt, within, sound, unsound}
+use Rattle.intake.specs.Calls.{openedWith, openingRefusal, closingRefusal, packetStep}
 use Rattle.intake.specs.After.{releasedFrom, marksAfter, poolAfter, outAfter, groupOf, userOf, opening, closing, closingOut, taking, takingPool, takingOut}
-use Rattle.intake.proofs.Soundness.{then-sound}
+use Rattle.state.proofs.Soundness.{then-sound}
 use Rattle.intake.proofs.Taken.{same-state}
 use Rattle.demands.specs.Runs.{Shaped, Start, begun, Call, run}
 use Rattle.demands.specs.Groups.{groupIn, Leaves, HeldPlace}
@@ -73,7 +73,7 @@ module _ (start : Start) (calls : List Call) (i : ℕ) where
   unfolding openingRefusal
   opening-never-24 settings =
       simp never (of-either Not24 (ltb 7 i) (λ b e. omega arith) (λ b. of-either Not24 (laneAt here i .opened) (λ c e. omega arith)
-      (λ c. of-either Not24 (illegal settings) (λ d e. omega arith) (λ d. of-either Not24 (ltb 64 (settings .share + total (here .lanes))) (λ f e. omega arith) (λ f e. omega arith)))))
+      (λ c. of-either Not24 (illegal settings) (λ d e. omega arith) (λ d. of-either Not24 (not (within (set (here .lanes) i (openedWith settings)))) (λ f e. omega arith) (λ f e. omega arith)))))
 
   pub closing-never-24 : (room : ℕ) → closingRefusal here i 16384 room ≡ 24 → ⊥
   unfolding closingRefusal

@@ -19,10 +19,10 @@ use Rattle.marks.proofs.Matched.{Matched, matched, sum-set, matching-freed, mat
 use Rattle.lane.specs.declared.Lane.{Lane}
 use Rattle.grouping.specs.declared.Step.{Step}
 use Rattle.grouping.specs.declared.Step.the-variants as step
-use Rattle.lane.specs.Lane.{held, need, fine}
+use Rattle.lane.specs.Lane.{held, fine}
 use Rattle.lane.proofs.Fine.{is-fine, none-held}
-use Rattle.intake.specs.declared.State.{State}
-use Rattle.intake.specs.State.{laneAt, others}
+use Rattle.state.specs.declared.State.{State}
+use Rattle.state.specs.State.{laneAt, within}
 use Rattle.intake.specs.After.{withLane, releasedFrom, grown, marksAfter}
 use Rattle.demands.proofs.Lanes.{held-at}
 use Rattle.demands.proofs.Sound.{Sound, lane-fine, changed}
@@ -113,7 +113,7 @@ module _ (s : State) (k : Sound s) (i : ℕ) (small : i < 8) where
       )))
 
   -- a state in which the lane holds nothing
-  pub emptied : (l : Lane) → fine l ≡ true → need l + others (s .lanes) i ≤ 64 → l .octets ≡ 0 → Sound (withLane s i l (releasedFrom (s .marks) i own))
+  pub emptied : (l : Lane) → fine l ≡ true → within (set (s .lanes) i l) ≡ true → l .octets ≡ 0 → Sound (withLane s i l (releasedFrom (s .marks) i own))
   emptied l good room none =
       changed s k i small l (releasedFrom (s .marks) i own) good room (released-length (s .marks) i own ∙ k .shape .1) (rw (none, none-held) released-matching)
 

@@ -20,8 +20,8 @@ use Rattle.marks.proofs.Lowest.{lowest-given, others-keep}
 use Rattle.lane.specs.declared.Lane.{Lane}
 use Rattle.grouping.specs.declared.Step.{Step}
 use Rattle.grouping.proofs.Planned.{of-either}
-use Rattle.intake.specs.declared.State.{State}
-use Rattle.intake.specs.State.{laneAt}
+use Rattle.state.specs.declared.State.{State}
+use Rattle.state.specs.State.{laneAt}
 use Rattle.intake.specs.Calls.{openingRefusal, closingRefusal}
 use Rattle.intake.specs.After.{releasedFrom, grown, marksAfter, userOf, opening, closing, taking}
 use Rattle.demands.specs.Runs.{Intake, Call, opens, takes, closes, after, laneOf}

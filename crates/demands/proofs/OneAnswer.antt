@@ -5,6 +5,7 @@ use contract.Lifetimes.{Lfts}
 use denote.Triple.Entry.{Args, Res}
 use denote.Triple.Clauses.{Ended, Lasts}
 use Rattle.reading.proofs.Answers as readingAnswers
+use Rattle.walk.proofs.Looked.{one-found}
 use Rattle.writing.proofs.Answers as writingAnswers
 use Rattle.record.proofs.Answers.{one-read, one-written, one-file}
 use Rattle.listing.proofs.Answers as listingAnswers
@@ -39,7 +40,7 @@ by-value promises still = fixed promises (λ κs a h r q v w e f. (alike e f, st
 -- ---- the entries, whose promises are those of `Promised`
 of-entry : (n : Name) → OneAnswer (function (the-entry n)) (Permitted n)
 of-entry name.read-packet κs a h r q v w e f = (readingAnswers.one-answer r q _ e f, refl)
-of-entry name.packet-at κs a h r q v w e f = (readingAnswers.one-answer r q _ e f, refl)
+of-entry name.look-at κs a h r q v w e f = (one-found _ _ r q e f, refl)
 of-entry name.write-space κs a h r q v w e f =
     (writingAnswers.one-answer r q _ (e .0) (f .0), λ i. (tt, (tt, (tt, (tt, (tt, (tt, (alike (e .1) (f .1) i, v .1 .1 .1 .1 .1 .1 .1))))))))
 of-entry name.write-encapsulation κs a h r q v w e f = (writingAnswers.one-answer r q _ (e .0) (f .0), λ i. (tt, (tt, (tt, (tt, (alike (e .1) (f .1) i, v .1 .1 .1 .1 .1))))))
@@ -94,13 +95,14 @@ one-answers public.store-octets = fixed (λ κs a h M 𝓤 H A mem run. refl) (�
 one-answers public.gather-octets =
     fixed (λ κs a h M 𝓤 H A mem run. two 𝓤)
     (λ κs a h r q v w e f. (alike (e .0) (f .0), λ i. (tt, (tt, (tt, (tt, (alike (e .1) (f .1) i, v .1 .1 .1 .1 .1)))))))
-one-answers public.need-with = by-value (λ κs a h M 𝓤 H A mem run. refl) (λ κs a v w. refl)
 one-answers public.need-of = fixed (λ κs a h M 𝓤 H A mem run. two 𝓤) (λ κs a h r q v w e f. (alike (e .0) (f .0), refl))
 one-answers public.is-illegal = by-value (λ κs a h M 𝓤 H A mem run. refl) (λ κs a v w. refl)
 one-answers public.is-fine = by-value (λ κs a h M 𝓤 H A mem run. refl) (λ κs a v w. refl)
 one-answers public.plan-packet = by-value (λ κs a h M 𝓤 H A mem run. refl) (λ κs a v w. refl)
 one-answers public.fresh-start = by-value (λ κs a h M 𝓤 H A mem run. refl) (λ κs a v w. refl)
+one-answers public.is-within = by-value (λ κs a h M 𝓤 H A mem run. refl) (λ κs a v w. refl)
 one-answers public.is-sound = by-value (λ κs a h M 𝓤 H A mem run. refl) (λ κs a v w. refl)
+one-answers public.is-unsound = by-value (λ κs a h M 𝓤 H A mem run. refl) (λ κs a v w. refl)
 one-answers public.branmuslin-fresh-start = by-value (λ κs a h M 𝓤 H A mem run. refl) (λ κs a v w. refl)
 one-answers public.branmuslin-is-sound = by-value (λ κs a h M 𝓤 H A mem run. refl) (λ κs a v w. refl)
 one-answers public.put = fixed (λ κs a h M 𝓤 H A mem run. two 𝓤) (λ κs a h r q v w e f. (alike (e .0) (f .0), λ i. (alike (e .1) (f .1) i, v .1)))
@@ -114,7 +116,9 @@ one-answers public.list-recording =
     (λ κs a h r q v w e f. (listingAnswers.one-answer r q _ _ (e .0) (f .0), λ i. (tt, (alike (e .1) (f .1) i, v .1 .1))))
 one-answers public.octets-of = by-value (λ κs a h M 𝓤 H A mem run. refl) (λ κs a v w. refl)
 one-answers public.written = fixed (λ κs a h M 𝓤 H A mem run. two 𝓤) (λ κs a h r q v w e f. ((alike (e .1) (f .1), alike (e .0) (f .0)), refl))
+one-answers public.adler32 = by-value (λ κs a h M 𝓤 H A mem run. refl) (λ κs a v w. refl)
 one-answers public.begin = by-value (λ κs a h M 𝓤 H A mem run. refl) (λ κs a v w. refl)
+one-answers public.call-in = by-value (λ κs a h M 𝓤 H A mem run. refl) (λ κs a v w. refl)
 one-answers public.replay-some =
     fixed (λ κs a h M 𝓤 H A mem run. five 𝓤)
     (λ κs a h r q v w e f. (

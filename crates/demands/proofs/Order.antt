@@ -1,73 +1,72 @@
 -- A packet's step gives the refusal that the one list of tests gives: the plan is followed test by test, and what is left over, the two tests for 19
 -- and the one for 20, fails where the answer isn't of that kind.
-use Prim.Native.Nat.{ℕ, _+_, _≤_, max}
+use Prim.Native.Nat.{ℕ, _+_, _≤_}
 use mathlib.Core.Path.{_≡_, refl, sym, _∙_}
-use mathlib.Core.Bool.{Bool, true, false, cond, not, _&&_}
+use mathlib.Core.Bool.{Bool, true, false, cond, not, _&&_, true≢false}
 use mathlib.Core.List.{List, [], _∷_, _++_}
 use native.Mathlib.Omega.{arith}
-use borrow.Author.Tests.{leb-true, leb-false, ltb-true, le-ltb, lt-ltb, eqb-true, eqb-false, eq-eqb, ne-eqb, not-false}
+use borrow.Author.Tests.{ltb-true, le-ltb, eqb-true, eqb-false, eq-eqb, ne-eqb, not-true, not-false}
 use lib.Dec.{eqb, ltb, leb}
+use lib.ListN.{getD, set}
 use Rattle.octets.specs.Order.{Test, _gives_, first}
 use Rattle.octets.proofs.Order.{either, first-append, Numbers, numbers-append, first-unless}
 use Rattle.packet.specs.Space.{flags, count}
 use Rattle.reading.specs.Reading.{isSpace, readingTests, refusal}
+use Rattle.record.specs.Record.{mostPackets}
 use Rattle.marks.specs.Blocks.{blocksFor}
-use Rattle.lane.specs.declared.Settings.{Settings}
 use Rattle.lane.specs.declared.Lane.{Lane}
 use Rattle.grouping.specs.declared.Added.{Added}
 use Rattle.grouping.specs.declared.Step.the-variants.{Stray}
 use Rattle.grouping.specs.declared.Plan.the-variants.{Sure}
-use Rattle.lane.specs.Lane.{holding}
-use Rattle.grouping.specs.Packets.{laneTests, fault, userOctets}
+use Rattle.lane.specs.Lane.{holding, closed}
+use Rattle.grouping.specs.Packets.{termsOf, laneTests, fault, userOctets}
 use Rattle.grouping.specs.Grouping.{repeats, goesOn, addedFrom}
 use Rattle.grouping.specs.Plans.{holdPlan, unitPlan, groupingPlan, acceptedPlan, packetPlan}
-use Rattle.lane.proofs.Fine.{is-fine}
+use Rattle.lane.proofs.Fine.{is-fine, none-held}
 use Rattle.grouping.proofs.Accepted.{fault-most}
 use Rattle.grouping.proofs.Planned.{of-either}
-use Rattle.intake.specs.declared.State.{State}
-use Rattle.intake.specs.State.{laneAt, others, unsound}
+use Rattle.grouping.specs.declared.Terms.{Terms}
+use Rattle.state.specs.declared.State.{State}
+use Rattle.state.specs.State.{laneAt, within, unsound}
+use Rattle.state.proofs.Within.{share-fits}
 use Rattle.intake.specs.Calls.{settle, packetStep}
-use Rattle.intake.proofs.Soundness.{then-sound}
+use Rattle.state.proofs.Soundness.{then-sound}
 use Rattle.demands.specs.Runs.{Shaped}
-use Rattle.demands.specs.Order.{refusalOf, wouldHold, wouldWrite, packetTests}
-use Rattle.demands.proofs.Sound.{Sound, is-sound, lane-fine, opened-small, room-now, need-open}
+use Rattle.demands.specs.Order.{refusalOf, wouldGroup, wouldHold, lanesWith, wouldWrite, packetTests}
+use Rattle.demands.proofs.Sound.{Sound, is-sound, lane-fine}
 
 and-false : (b : Bool) → b && false ≡ false
 and-false true = refl
 and-false false = refl
 
--- an open lane's share fits beside the others
-pub share-fits : (s : State) → Sound s → (i : ℕ) → laneAt s i .opened ≡ true → laneAt s i .settings .share + others (s .lanes) i ≤ 64
-share-fits s k i o = omega (arith, need-open (laneAt s i) o, room-now s k i (opened-small s k i o))
+-- ---- the last three tests, for lane i, which would have a group of n octets beside the others, and would write u
+module _ (ls : List Lane) (i room : ℕ) where
+  abbrev l : Lane
+  l = getD ls i closed
 
--- ---- the last three tests, for a lane l that would hold h beside the others' sum o, and would write u
-module _ (l : Lane) (o room : ℕ) where
   abbrev Last : ℕ → ℕ → ℕ
-  Last h u =
+  Last n u =
       first 0
-      ((ltb (l .settings .cap) h gives 19)
-      ∷ (ltb 64 (max h (l .settings .share) + o) gives 19)
+      ((ltb (l .settings .cap) (blocksFor n) gives 19)
+      ∷ (not (within (set ls i (holding l n))) gives 19)
       ∷ (ltb room u gives 20)
       ∷ [])
 
-  to-hold : l .opened ≡ true → (a : Added) (on : Bool) (n : ℕ) → refusalOf (settle l o (holdPlan (l .settings) a on n)) ≡ Last (blocksFor n) 0
+  to-hold : (a : Added) (on : Bool) (n : ℕ) → refusalOf (settle ls i (holdPlan (l .settings) a on n)) ≡ Last n 0
   unfolding holdPlan settle
-  to-hold open′ a on n =
-      let most : ℕ = max (blocksFor n) (l .settings .share) + o in
+  to-hold a on n =
       either (ltb (l .settings .cap) (blocksFor n)) (λ e. simp e)
-      (λ e. simp (e, need-open (holding l n) open′) (either (leb most 64)
-      (λ r. simp (r, le-ltb 64 most (leb-true most 64 r), le-ltb room 0 (omega arith)))
-      (λ r. simp (r, lt-ltb 64 most (leb-false most 64 r)))))
+      (λ e. simp e (either (within (set ls i (holding l n))) (λ r. simp (r, le-ltb room 0 (omega arith))) (λ r. simp r)))
 
-  module _ (open′ : l .opened ≡ true) (fits : l .settings .share + o ≤ 64) where
+  module _ (fits : within (set ls i (holding l 0)) ≡ true) where
     none-to-hold : (u : ℕ) → Last 0 u ≡ first 0 ((ltb room u gives 20) ∷ [])
-    none-to-hold u = simp (le-ltb (l .settings .cap) 0 (omega arith), le-ltb 64 (max 0 (l .settings .share) + o) (omega arith))
+    none-to-hold u = simp (le-ltb (l .settings .cap) (blocksFor 0) (omega (arith, none-held)), fits)
 
-    to-end : (a : Added) (on : Bool) (n : ℕ) → refusalOf (settle l o (unitPlan room a on n)) ≡ Last 0 n
+    to-end : (a : Added) (on : Bool) (n : ℕ) → refusalOf (settle ls i (unitPlan room a on n)) ≡ Last 0 n
     unfolding unitPlan settle
     to-end a on n = rw (none-to-hold n) (either (ltb room n) (λ e. simp e) (λ e. simp e))
 
-    to-stray : (a : Added) → refusalOf (settle l o (Sure (Stray a))) ≡ Last 0 0
+    to-stray : (a : Added) → refusalOf (settle ls i (Sure (Stray a))) ≡ Last 0 0
     unfolding settle
     to-stray a = rw (none-to-hold 0) (simp (le-ltb room 0 (omega arith)))
 
@@ -84,15 +83,15 @@ module _ (l : Lane) (o room : ℕ) where
       not-if : (m n : ℕ) → eqb f m ≡ true → (m ≡ n → ⊥) → eqb f n ≡ false
       not-if m n e d = ne-eqb f n (λ z. d (sym (eqb-true f m e) ∙ z))
 
-      grouping : refusalOf (settle l o (groupingPlan l f (count p) user room)) ≡ Last (wouldHold l p) (wouldWrite l p)
-      unfolding groupingPlan wouldHold wouldWrite
+      grouping : refusalOf (settle ls i (groupingPlan l f (count p) user room)) ≡ Last (wouldGroup l p) (wouldWrite l p)
+      unfolding groupingPlan wouldGroup wouldWrite
       grouping =
           either (eqb f 3)
           (λ e. simp (e, not-if 3 1 e (λ z. omega arith), not-if 3 0 e (λ z. omega arith)) (to-end a false user))
-          (λ e. either (eqb f 1) (λ g. simp (e, g, not-if 1 2 g (λ z. omega arith)) (to-hold open′ a false user))
+          (λ e. either (eqb f 1) (λ g. simp (e, g, not-if 1 2 g (λ z. omega arith)) (to-hold a false user))
           (λ g. either (goesOn l f (count p))
           (λ on. either (eqb f 0)
-          (λ h. simp (e, g, h, not-if 0 2 h (λ z. omega arith), on) (to-hold open′ a true (l .octets + user)))
+          (λ h. simp (e, g, h, not-if 0 2 h (λ z. omega arith), on) (to-hold a true (l .octets + user)))
           (λ h.
           let ends : eqb f 2 ≡ true = eq-eqb f 2 (omega (arith, eqb-false f 3 e, eqb-false f 1 g, eqb-false f 0 h)) in
           simp (e, g, h, ends, on) (to-end a true (l .octets + user))))
@@ -103,15 +102,15 @@ reading-numbers : (p : List ℕ) → Numbers (readingTests p)
 unfolding readingTests
 reading-numbers p = either (isSpace p) (λ e. simp e (omega arith)) (λ e. simp e (omega arith))
 
-lane-numbers : (l : Settings) (p : List ℕ) → Numbers (laneTests l p)
-lane-numbers l p = omega arith
+lane-numbers : (t : Terms) (p : List ℕ) → Numbers (laneTests t p)
+lane-numbers t p = omega arith
 
-faults : (l : Settings) (p : List ℕ) (rest : List (Test ℕ)) → first 0 (readingTests p ++ laneTests l p ++ rest) ≡ cond (not (eqb (fault l p) 0)) (fault l p) (first 0 rest)
+faults : (t : Terms) (p : List ℕ) (rest : List (Test ℕ)) → first 0 (readingTests p ++ laneTests t p ++ rest) ≡ cond (not (eqb (fault t p) 0)) (fault t p) (first 0 rest)
 unfolding fault refusal
-faults l p rest =
-    let same : first 0 (readingTests p ++ laneTests l p) ≡ fault l p = first-append 0 (readingTests p) (laneTests l p) ∙ first-unless (first 0 (laneTests l p)) (readingTests p) (reading-numbers p) in
-    first-append 0 (readingTests p ++ laneTests l p) rest
-    ∙ first-unless (first 0 rest) (readingTests p ++ laneTests l p) (numbers-append (readingTests p) (laneTests l p) (reading-numbers p) (lane-numbers l p)) ∙ rw same
+faults t p rest =
+    let same : first 0 (readingTests p ++ laneTests t p) ≡ fault t p = first-append 0 (readingTests p) (laneTests t p) ∙ first-unless (first 0 (laneTests t p)) (readingTests p) (reading-numbers p) in
+    first-append 0 (readingTests p ++ laneTests t p) rest
+    ∙ first-unless (first 0 rest) (readingTests p ++ laneTests t p) (numbers-append (readingTests p) (laneTests t p) (reading-numbers p) (lane-numbers t p)) ∙ rw same
 
 pub ordered : (s : State) → Shaped s → (i : ℕ) (p : List ℕ) (octets room : ℕ) → refusalOf (packetStep s i p octets room) ≡ first 0 (packetTests s i p octets room)
 unfolding packetStep packetPlan acceptedPlan settle
@@ -119,10 +118,10 @@ ordered s shape i p octets room =
     let l : Lane = laneAt s i in
     either (unsound s octets) (λ e. simp e)
     (λ e. simp e (either (not (l .opened)) (λ a. simp a)
-    (λ a. simp a (rw (faults (l .settings) p _) (either (not (eqb (fault (l .settings) p) 0)) (λ b. simp b)
+    (λ a. simp a (rw (faults (termsOf l) p _) (either (not (eqb (fault (termsOf l) p) 0)) (λ b. simp b)
     (λ b. simp b (either (repeats l (count p)) (λ c. simp c)
-    (λ c. simp c (either (leb 262144 (l .packets)) (λ d. simp d)
-    (λ d. simp d (grouping l (others (s .lanes) i) room (not-false _ a) (share-fits s (is-sound s shape (then-sound s octets e .0)) i (not-false _ a)) p)))))))))))
+    (λ c. simp c (either (leb mostPackets (l .packets)) (λ d. simp d)
+    (λ d. simp d (grouping (s .lanes) i room (share-fits (s .lanes) i (not-false _ a) 0 (omega (arith, none-held)) (is-sound s shape (then-sound s octets e .0) .room)) p)))))))))))
 
 -- ---- no test for 19 holds of an open lane that would hold no more than its cap and has the room beside the others
 abbrev Not19 : ℕ → Type 0
@@ -135,19 +134,19 @@ module _ (s : State) (i : ℕ) (p : List ℕ) (octets room : ℕ) where
   abbrev h : ℕ
   h = wouldHold own p
 
-  pub not-19 : (own .opened ≡ true → (h ≤ own .settings .cap) × (max h (own .settings .share) + others (s .lanes) i ≤ 64)) → Not19 (first 0 (packetTests s i p octets room))
+  pub not-19 : (own .opened ≡ true → (h ≤ own .settings .cap) × (within (lanesWith s i p) ≡ true)) → Not19 (first 0 (packetTests s i p octets room))
   not-19 fits =
       of-either Not19 (unsound s octets) (λ a z. omega arith)
       (λ a. of-either Not19 (not (own .opened)) (λ b z. omega arith)
       (λ b.
       let both = fits (not-false _ b) in
-      rw (faults (own .settings) p _) (of-either Not19 (not (eqb (fault (own .settings) p) 0)) (λ c z. omega (arith, fault-most (own .settings) p))
+      rw (faults (termsOf own) p _) (of-either Not19 (not (eqb (fault (termsOf own) p) 0)) (λ c z. omega (arith, fault-most (termsOf own) p))
       (λ c. of-either Not19 (repeats own (count p)) (λ d z. omega arith)
-      (λ d. of-either Not19 (leb 262144 (own .packets)) (λ e z. omega arith)
+      (λ d. of-either Not19 (leb mostPackets (own .packets)) (λ e z. omega arith)
       (λ e. of-either Not19 (ltb (own .settings .cap) h) (λ f z. omega (arith, ltb-true (own .settings .cap) h f))
-      (λ f. of-either Not19 (ltb 64 (max h (own .settings .share) + others (s .lanes) i)) (λ g z. omega (arith, ltb-true 64 (max h (own .settings .share) + others (s .lanes) i) g))
+      (λ f. of-either Not19 (not (within (lanesWith s i p))) (λ g. absurd (true≢false (sym (both .1) ∙ not-true _ g)))
       (λ g. of-either Not19 (ltb room (wouldWrite own p)) (λ j z. omega arith) (λ j z. omega arith)))))))))
 
   -- so of one that would hold no more than its share
   pub room-in-share : Sound s → h ≤ own .settings .share → Not19 (first 0 (packetTests s i p octets room))
-  room-in-share k few = not-19 (λ o. (omega (arith, is-fine own (lane-fine s k i) .legal o .share), omega (arith, share-fits s k i o)))
+  room-in-share k few = not-19 (λ o. (omega (arith, is-fine own (lane-fine s k i) .legal o .share), share-fits (s .lanes) i o (wouldGroup own p) few (k .room)))

@@ -9,7 +9,7 @@ use Rattle.demands.proofs.Plain.{two, three, four}
 
 pub promised : (n : Name) → Promises (function (the-entry n)) (Permitted n)
 promised name.read-packet κs a h M 𝓤 H A mem run = refl
-promised name.packet-at κs a h M 𝓤 H A mem run = refl
+promised name.look-at κs a h M 𝓤 H A mem run = refl
 promised name.write-space κs a h M 𝓤 H A mem run = two 𝓤
 promised name.write-encapsulation κs a h M 𝓤 H A mem run = two 𝓤
 promised name.read-record κs a h M 𝓤 H A mem run = refl

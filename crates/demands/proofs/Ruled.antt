@@ -1,6 +1,6 @@
 -- A packet that comes to the lane of a past: what is planned from the lane alone is the grouping rule's word on the packets accepted. The lane's
 -- `missing`, `breaks` and `goesOn` are the rule's, and one law says what a counted packet makes of the lane.
-use Prim.Native.Nat.{ℕ, _+_, _≤_, max}
+use Prim.Native.Nat.{ℕ, _+_, _<_, _≤_}
 use mathlib.Core.Path.{_≡_, refl, sym, subst, _∙_}
 use mathlib.Core.Bool.{Bool, true, false, cond, not, _&&_, true≢false}
 use mathlib.Core.List.{List, [], _∷_, _++_}
@@ -10,10 +10,11 @@ use native.Mathlib.Numerals.{add-one}
 use native.Mathlib.Omega.{arith}
 use borrow.Author.Tests.{eqb-true, eqb-false, not-true, not-false}
 use lib.Dec.{eqb, ltb, leb, eqb·suc-zero}
-use lib.ListN.{length, length-append}
+use lib.ListN.{length, getD, set, length-append}
 use Rattle.octets.specs.Octets.{one}
 use Rattle.octets.proofs.Order.{either}
-use Rattle.packet.specs.Space.{flags, count}
+use Rattle.packet.specs.Space.{counts, flags, count}
+use Rattle.record.specs.Record.{mostPackets}
 use Rattle.marks.specs.Blocks.{blocksFor}
 use Rattle.lane.specs.declared.Settings.{Settings}
 use Rattle.lane.specs.declared.Lane.{Lane}
@@ -22,14 +23,15 @@ use Rattle.grouping.specs.declared.Step.{Step}
 use Rattle.grouping.specs.declared.Step.the-variants.{Refuse, Repeat, Stray}
 use Rattle.grouping.specs.declared.Plan.{Plan}
 use Rattle.grouping.specs.declared.Plan.the-variants.{Sure}
-use Rattle.lane.specs.Lane.{need, holding}
-use Rattle.grouping.specs.Packets.{fault, userData}
+use Rattle.lane.specs.Lane.{need, holding, closed}
+use Rattle.grouping.specs.Packets.{termsOf, fault, userData}
 use Rattle.grouping.specs.Grouping.{missingBefore, goesOn, addedFrom}
 use Rattle.grouping.specs.Grouping as lane
 use Rattle.grouping.specs.Plans.{holdPlan, unitPlan, groupingPlan, acceptedPlan, packetPlan}
 use Rattle.grouping.specs.Steps.{counted, laneAfter}
 use Rattle.grouping.proofs.Accepted.{accepted-data}
 use Rattle.grouping.proofs.Planned.{of-either}
+use Rattle.state.specs.State.{within}
 use Rattle.intake.specs.Calls.{settle}
 use Rattle.intake.specs.After.{answerOf}
 use Rattle.demands.specs.Runs.{Call, takes, Reply, toPacket}
@@ -79,7 +81,7 @@ none-either false = refl
 module _ (ps : List Accepted) (q : Accepted) where
   -- what it adds to the tallies
   abbrev added : Added
-  added = record { missing = missing ps q; broke = givesUp ps q; count = q .count }
+  added = record { missing = missing ps q; «given_up» = givesUp ps q; count = q .count }
 
   pub units-more : units (q ∷ ps) ≡ units ps + one (present (unit ps q))
   unfolding endings one
@@ -93,8 +95,8 @@ module _ (ps : List Accepted) (q : Accepted) where
   unfolding missingInAll broken lastCount
   grown s u g e f = rw (e, f, units-more, add-one)
 
--- ---- a packet p that comes to the lane; counts are below 16,384
-module _ (s : Settings) (ps : List Accepted) (small : lastCount ps ≤ 16383) (i : ℕ) (p out : List ℕ) where
+-- ---- a packet p that comes to the lane
+module _ (s : Settings) (ps : List Accepted) (small : lastCount ps < counts) (i : ℕ) (p out : List ℕ) where
   abbrev l : Lane
   l = laneFrom (since s ps)
 
@@ -106,7 +108,7 @@ module _ (s : Settings) (ps : List Accepted) (small : lastCount ps ≤ 16383) (i
   Does = Steps (since s ps) (slotFrom (since s ps)) i p out
 
   abbrev Plans : Plan → Type 0
-  Plans d = (sum : ℕ) → Does (settle l sum d)
+  Plans d = (ls : List Lane) (at : ℕ) → Does (settle ls at d)
 
   refuses : (number : ℕ) → Does (Refuse number)
   refuses = refused (since s ps) i p out
@@ -124,7 +126,7 @@ module _ (s : Settings) (ps : List Accepted) (small : lastCount ps ≤ 16383) (i
   unfolding missingBefore missing lastCount
   missing-same = of-list ps small
     where
-      of-list : (ps : List Accepted) → lastCount ps ≤ 16383 → missingBefore (laneFrom (since s ps)) (count p) ≡ missing ps q
+      of-list : (ps : List Accepted) → lastCount ps < counts → missingBefore (laneFrom (since s ps)) (count p) ≡ missing ps q
       of-list [] h = refl
       of-list (last ∷ before) h = rw (eqb·suc-zero (length before)) (omega arith)
 
@@ -145,7 +147,7 @@ module _ (s : Settings) (ps : List Accepted) (small : lastCount ps ≤ 16383) (i
 
     strays : none ≡ unit ps q → none ≡ group (q ∷ ps) → Plans (Sure (Stray (added ps q)))
     unfolding settle laneAfter one
-    strays e f sum = accepts none none e f
+    strays e f ls at = accepts none none e f
 
     -- the group, if it goes on, and the user data
     abbrev whole : Bool → List ℕ
@@ -158,13 +160,13 @@ module _ (s : Settings) (ps : List Accepted) (small : lastCount ps ≤ 16383) (i
       holds : none ≡ unit ps q → some (whole on) ≡ group (q ∷ ps) → Plans (holdPlan s (added ps q) on n)
       unfolding holdPlan settle laneAfter one
       holds e f =
-          of-either Plans (ltb (s .cap) (blocksFor n)) (λ t sum. refuses 19)
-          (λ t sum. of-either Does (leb (need (holding l n) + sum) 64)
+          of-either Plans (ltb (s .cap) (blocksFor n)) (λ t ls at. refuses 19)
+          (λ t ls at. of-either Does (within (set ls at (holding (getD ls at closed) n)))
           (λ r. accepts none (some (whole on)) e f) (λ r. refuses 19))
 
       ends : some (whole on) ≡ unit ps q → none ≡ group (q ∷ ps) → Plans (unitPlan (length out) (added ps q) on n)
       unfolding unitPlan settle laneAfter one
-      ends e f = of-either Plans (ltb (length out) n) (λ t sum. refuses 20) (λ t sum. accepts (some (whole on)) none e f)
+      ends e f = of-either Plans (ltb (length out) n) (λ t ls at. refuses 20) (λ t ls at. accepts (some (whole on)) none e f)
 
     -- by the flags, and whether the open group goes on
     abbrev goes : Bool
@@ -197,23 +199,23 @@ module _ (s : Settings) (ps : List Accepted) (small : lastCount ps ≤ 16383) (i
 
   repeated : repeats ps q ≡ true → Plans (Sure Repeat)
   unfolding settle laneAfter
-  repeated e sum = (refl, inr (simp e))
+  repeated e ls at = (refl, inr (simp e))
 
   planned : Plans (packetPlan l p (length out))
   unfolding packetPlan acceptedPlan settle
   planned =
-      of-either Plans (not (eqb (fault s p) 0)) (λ e sum. refuses (fault s p))
+      of-either Plans (not (eqb (fault (termsOf l) p) 0)) (λ e ls at. refuses (fault (termsOf l) p))
       (λ e. of-either Plans (lane.repeats l (count p)) (λ f. repeated (sym repeats-same ∙ f))
-      (λ f. of-either Plans (leb 262144 (length ps)) (λ g sum. refuses 18)
-      (λ g. rw (← accepted-data s p (eqb-true _ _ (not-false _ e)) .1) (grouping (sym repeats-same ∙ f)))))
+      (λ f. of-either Plans (leb mostPackets (length ps)) (λ g ls at. refuses 18)
+      (λ g. rw (← accepted-data (termsOf l) p (eqb-true _ _ (not-false _ e)) .1) (grouping (sym repeats-same ∙ f)))))
 
 -- ---- so of every past, where lane v is the past's; a closed one refuses
-pub packet-follows : (past : Past) (v : Slot) → v ≡ slotFrom past → v .lane .last ≤ 16383 → (i : ℕ) (p out : List ℕ) (sum : ℕ)
-    → Steps past v i p out (settle (v .lane) sum (packetPlan (v .lane) p (length out)))
+pub packet-follows : (past : Past) (v : Slot) → v ≡ slotFrom past → v .lane .last < counts → (i : ℕ) (p out : List ℕ) (ls : List Lane) (at : ℕ)
+    → Steps past v i p out (settle ls at (packetPlan (v .lane) p (length out)))
 unfolding packetPlan settle
-packet-follows past v same few i p out sum =
-    subst (λ (v : Slot). v .lane .last ≤ 16383 → Steps past v i p out (settle (v .lane) sum (packetPlan (v .lane) p (length out)))) (sym same) (of-past past) few
+packet-follows past v same few i p out ls at =
+    subst (λ (v : Slot). v .lane .last < counts → Steps past v i p out (settle ls at (packetPlan (v .lane) p (length out)))) (sym same) (of-past past) few
   where
-    of-past : (past : Past) → laneFrom past .last ≤ 16383 → Steps past (slotFrom past) i p out (settle (laneFrom past) sum (packetPlan (laneFrom past) p (length out)))
+    of-past : (past : Past) → laneFrom past .last < counts → Steps past (slotFrom past) i p out (settle ls at (packetPlan (laneFrom past) p (length out)))
     of-past shut h = refused shut i p out 11
-    of-past (since s ps) h = planned s ps h i p out sum
+    of-past (since s ps) h = planned s ps h i p out ls at

@@ -12,6 +12,7 @@ use lib.ListN.{length, getD, set, length-map, List·getD-eq-default}
 use lib.Seq.{getD-set-same}
 use Rattle.octets.proofs.Order.{either}
 use Rattle.packet.specs.Space.{flags, count}
+use Rattle.record.specs.Record.{mostPackets}
 use Rattle.marks.specs.Blocks.{free, mark, blocksFor, find}
 use Rattle.pool.specs.Octets.{place}
 use Rattle.marks.proofs.Finding.{bears}
@@ -22,16 +23,16 @@ use Rattle.grouping.specs.declared.Step.{Step}
 use Rattle.grouping.specs.declared.Step.the-variants as step
 use Rattle.grouping.specs.declared.Plan.{Plan}
 use Rattle.lane.specs.Lane.{closed, held, need, holding}
-use Rattle.grouping.specs.Packets.{fault, userOctets}
+use Rattle.grouping.specs.Packets.{termsOf, fault, userOctets}
 use Rattle.grouping.specs.Grouping.{repeats, goesOn, addedFrom}
 use Rattle.grouping.specs.Plans.{holdPlan, unitPlan, groupingPlan, acceptedPlan, packetPlan}
 use Rattle.grouping.specs.Steps.{laneAfter}
 use Rattle.lane.proofs.Fine.{is-fine, held-most}
 use Rattle.grouping.proofs.Planned.{of-either}
-use Rattle.intake.specs.declared.State.{State}
+use Rattle.state.specs.declared.State.{State}
 use Rattle.intake.specs.declared.Answer.{Answer}
 use Rattle.intake.specs.declared.Answer.the-variants.{Held}
-use Rattle.intake.specs.State.{laneAt, others, unsound}
+use Rattle.state.specs.State.{laneAt, within, unsound}
 use Rattle.intake.specs.Calls.{settle, packetStep}
 use Rattle.intake.specs.After.{marksAfter, userOf, answerOf, answered, taking}
 use Rattle.demands.specs.Runs.{Intake, begun, takes, toPacket, reply, after, run, reached, laneOf}
@@ -117,15 +118,15 @@ Flagged p (step.Stray a) = Unit {0}
 Flagged p (step.Hold a on n) = on ≡ not (eqb (flags p) 1)
 Flagged p (step.Unit a on n) = Unit {0}
 
-module _ (o : ℕ) (l : Lane) (p : List ℕ) (room : ℕ) where
+module _ (ls : List Lane) (i : ℕ) (l : Lane) (p : List ℕ) (room : ℕ) where
   abbrev Says : Plan → Type 0
-  Says d = Flagged p (settle l o d)
+  Says d = Flagged p (settle ls i d)
 
   to-hold : (a : Added) (on : Bool) (n : ℕ) → on ≡ not (eqb (flags p) 1) → Says (holdPlan (l .settings) a on n)
   unfolding holdPlan settle
   to-hold a on n e =
       of-either Says (ltb (l .settings .cap) (blocksFor n)) (λ f. tt)
-      (λ f. of-either (Flagged p) (leb (need (holding l n) + o) 64) (λ g. e) (λ g. tt))
+      (λ f. of-either (Flagged p) (within (set ls i (holding (getD ls i closed) n))) (λ g. e) (λ g. tt))
 
   to-end : (a : Added) (on : Bool) (n : ℕ) → Says (unitPlan room a on n)
   unfolding unitPlan settle
@@ -137,9 +138,9 @@ module _ (o : ℕ) (l : Lane) (p : List ℕ) (room : ℕ) where
       let user : ℕ = userOctets (l .settings) p in
       let a : Added = addedFrom l (flags p) (count p) in
       of-either Says (not (l .opened)) (λ e. tt)
-      (λ e. of-either Says (not (eqb (fault (l .settings) p) 0)) (λ e. tt)
+      (λ e. of-either Says (not (eqb (fault (termsOf l) p) 0)) (λ e. tt)
       (λ e. of-either Says (repeats l (count p)) (λ e. tt)
-      (λ e. of-either Says (leb 262144 (l .packets)) (λ e. tt)
+      (λ e. of-either Says (leb mostPackets (l .packets)) (λ e. tt)
       (λ e. of-either Says (eqb (flags p) 3) (λ e. to-end a false user)
       (λ e. of-either Says (eqb (flags p) 1) (λ f. to-hold a false user (simp f))
       (λ f. of-either Says (not (goesOn l (flags p) (count p))) (λ e. tt)
@@ -147,7 +148,7 @@ module _ (o : ℕ) (l : Lane) (p : List ℕ) (room : ℕ) where
 
 step-flagged : (s : State) (i : ℕ) (p : List ℕ) (octets room : ℕ) → Flagged p (packetStep s i p octets room)
 unfolding packetStep
-step-flagged s i p octets room = of-either (Flagged p) (unsound s octets) (λ e. tt) (λ e. plan-flagged (others (s .lanes) i) (laneAt s i) p room)
+step-flagged s i p octets room = of-either (Flagged p) (unsound s octets) (λ e. tt) (λ e. plan-flagged (s .lanes) i (laneAt s i) p room)
 
 -- ---- and gets the lowest-numbered free blocks
 module _ (s : State) (k : Sound s) (i : ℕ) (p : List ℕ) where
@@ -165,7 +166,7 @@ module _ (s : State) (k : Sound s) (i : ℕ) (p : List ℕ) where
         getD (answered s i d .state .marks) b 0
         ≡ marked s i p b (held (laneAt (answered s i d .state) i))
 
-    held-lowest : {d : Step} {m : ℕ} {gave : Bool} → Stepped s i p octets room d → Flagged p d → answerOf d ≡ Held m gave → Lowest d
+    held-lowest : {d : Step} {m : ℕ} {givenUp : Bool} → Stepped s i p octets room d → Flagged p d → answerOf d ≡ Held m givenUp → Lowest d
     unfolding marksAfter laneAfter
     held-lowest (now.refuses n h t) flagged told = cc
     held-lowest now.repeats flagged told = cc
@@ -178,12 +179,12 @@ module _ (s : State) (k : Sound s) (i : ℕ) (p : List ℕ) where
         let here : getD (set (s .lanes) i next) i closed ≡ next = getD-set-same (s .lanes) i next closed (omega (arith, k .shape .0, f .small)) in
         rw (same .0, same .1, here) (grown-marked s k i b block (f .small) on n (g .0) (g .1))
 
-pub lowest-at : (x : Intake) → Sound (x .state) → (i : ℕ) (p out left : List ℕ) (m : ℕ) (gave : Bool) (b : ℕ) → b < 64 → reply x (takes i p out) ≡ toPacket (Held m gave) left
+pub lowest-at : (x : Intake) → Sound (x .state) → (i : ℕ) (p out left : List ℕ) (m : ℕ) (givenUp : Bool) (b : ℕ) → b < 64 → reply x (takes i p out) ≡ toPacket (Held m givenUp) left
     → markAt (after x (takes i p out) .state) b ≡ marked (x .state) i p b (held (laneAt (after x (takes i p out) .state) i))
 unfolding after taking
-lowest-at x k i p out left m gave b block e =
+lowest-at x k i p out left m givenUp b block e =
     held-lowest (x .state) k i p (length (x .pool)) (length out) b block (stepped (x .state) k i p (length (x .pool)) (length out))
-    (step-flagged (x .state) i p (length (x .pool)) (length out)) (step-told x i p out left (Held m gave) e)
+    (step-flagged (x .state) i p (length (x .pool)) (length out)) (step-told x i p out left (Held m givenUp) e)
 
 pub takes-lowest : TakesLowest
-takes-lowest start calls i p out left m gave b block e = lowest-at (run (begun start) calls) (reached-sound start calls) i p out left m gave b block e
+takes-lowest start calls i p out left m givenUp b block e = lowest-at (run (begun start) calls) (reached-sound start calls) i p out left m givenUp b block e

@@ -13,7 +13,7 @@ use lib.Dec.{eqb}
 use Rattle.octets.proofs.Order.{either}
 use Rattle.intake.specs.declared.Answer.{Answer}
 use Rattle.intake.specs.declared.Answer.the-variants.{Refused, Repeat, Stray, Held, Unit}
-use Rattle.intake.specs.State.{laneAt}
+use Rattle.state.specs.State.{laneAt}
 use Rattle.reading.specs.Reading.{fields, reading}
 use Rattle.demands.specs.Runs.{Intake, Start, begun, Call, opens, takes, closes, Reply, toOpening, toPacket, toClosing, reply, after, run, laneOf, names}
 use Rattle.demands.specs.Rule.{repeats, missing, group, endings, missingInAll, broken, answerWith, answerTo}
@@ -102,15 +102,15 @@ refused-tells-none : (r : Reply) → isRefused r ≡ true → missingTold r ≡ 
 refused-tells-none (toOpening k) e = refl
 refused-tells-none (toPacket (Refused k) out) e = refl
 refused-tells-none (toPacket Repeat out) e = refl
-refused-tells-none (toPacket (Stray m gave) out) e = absurd (true≢false (sym e))
-refused-tells-none (toPacket (Held m gave) out) e = absurd (true≢false (sym e))
-refused-tells-none (toPacket (Unit octets m gave) out) e = absurd (true≢false (sym e))
+refused-tells-none (toPacket (Stray m givenUp) out) e = absurd (true≢false (sym e))
+refused-tells-none (toPacket (Held m givenUp) out) e = absurd (true≢false (sym e))
+refused-tells-none (toPacket (Unit octets m givenUp) out) e = absurd (true≢false (sym e))
 refused-tells-none (toClosing k out) e = refl
 
-some-missing : (unit open′ : Option (List ℕ)) (m : ℕ) (gave : Bool) (out : List ℕ) → missingTold (toPacket (answerWith unit open′ m gave) out) ≡ some m
-some-missing (some octets) open′ m gave out = refl
-some-missing none (some octets) m gave out = refl
-some-missing none none m gave out = refl
+some-missing : (unit open′ : Option (List ℕ)) (m : ℕ) (givenUp : Bool) (out : List ℕ) → missingTold (toPacket (answerWith unit open′ m givenUp) out) ≡ some m
+some-missing (some octets) open′ m givenUp out = refl
+some-missing none (some octets) m givenUp out = refl
+some-missing none none m givenUp out = refl
 
 missing-by-rule : (past : Past) (i : ℕ) (packet out : List ℕ) (r : Reply) (told : ℕ) → ByRule past (takes i packet out) r → missingTold r ≡ some told
     → missingBy past packet ≡ some told

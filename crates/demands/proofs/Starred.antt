@@ -11,12 +11,12 @@ use Rattle.grouping.specs.Packets.{fault}
 use Rattle.grouping.specs.Grouping.{repeats, missingBefore, breaks, givesUp, goesOn}
 use Rattle.grouping.specs.Plans.{unitPlan, groupingPlan, acceptedPlan, packetPlan}
 use Rattle.grouping.specs.Steps.{laneAfter}
-use Rattle.intake.specs.State.{freshState, total, others, every, sound, unsound}
+use Rattle.state.specs.State.{freshState, total, within, every, sound, unsound}
 use Rattle.intake.specs.Calls.{openingRefusal, settle, packetStep}
 use Rattle.intake.specs.After.{opening, taking, releasedFrom, marksAfter}
 use Rattle.demands.specs.Runs.{after, run}
 use Rattle.demands.specs.Starred.{given, starred}
 
 pub as-the-paper-says : map given starred ≡ starred
-unfolding header size readingTests refusal fields reading content possible blocksFor find found holds eachHolds count sum matching one need illegal talliesPossible fine fault repeats missingBefore breaks givesUp goesOn unitPlan groupingPlan acceptedPlan packetPlan laneAfter freshState total others every sound unsound openingRefusal settle packetStep opening taking releasedFrom marksAfter after run
+unfolding header size readingTests refusal fields reading content possible blocksFor find found holds eachHolds count sum matching one need illegal talliesPossible fine fault repeats missingBefore breaks givesUp goesOn unitPlan groupingPlan acceptedPlan packetPlan laneAfter freshState total within every sound unsound openingRefusal settle packetStep opening taking releasedFrom marksAfter after run
 as-the-paper-says = refl

@@ -5,8 +5,6 @@ use mathlib.Core.Path.{_≡_, refl, sym, ap, _∙_}
 use mathlib.Core.Bool.{Bool, true, false, cond}
 use mathlib.Core.List.{List, map}
 use native.Mathlib.Omega.{arith}
-use borrow.Author.Tests.{leb-true}
-use lib.Dec.{leb}
 use lib.ListN.{length, set}
 use lib.Seq.{set-getD}
 use Rattle.octets.proofs.Order.{either}
@@ -18,26 +16,28 @@ use Rattle.grouping.specs.declared.Added.{Added}
 use Rattle.grouping.specs.declared.Step.{Step}
 use Rattle.grouping.specs.declared.Step.the-variants.{Refuse, Repeat, Stray, Hold, Unit}
 use Rattle.grouping.specs.declared.Plan.{Plan}
-use Rattle.lane.specs.Lane.{held, need, holding, fine}
+use Rattle.lane.specs.Lane.{held, holding, fine}
 use Rattle.grouping.specs.Steps.{laneAfter}
 use Rattle.grouping.proofs.Accepted.{accepted-data}
 use Rattle.grouping.proofs.Planned.{of-either, ToHold, Planned, planned}
 use Rattle.grouping.proofs.Planned as plan
-use Rattle.intake.specs.declared.State.{State}
-use Rattle.intake.specs.State.{laneAt, others, unsound}
+use Rattle.grouping.specs.Packets.{termsOf}
+use Rattle.state.specs.declared.State.{State}
+use Rattle.state.specs.State.{laneAt, within, unsound}
+use Rattle.state.proofs.Within.{need-open, smaller, same-need}
 use Rattle.intake.specs.Calls.{settle, packetStep}
 use Rattle.intake.specs.After.{withLane, marksAfter, userOf, answered}
-use Rattle.intake.proofs.Soundness.{then-sound}
+use Rattle.state.proofs.Soundness.{then-sound}
 use Rattle.demands.specs.Order.{refusalOf}
-use Rattle.demands.proofs.Lanes.{fine-set, total-set, held-set, held-within}
-use Rattle.demands.proofs.Sound.{Sound, lane-fine, opened-small, room-now, changed, need-open}
+use Rattle.demands.proofs.Lanes.{fine-set, held-set, held-within}
+use Rattle.demands.proofs.Sound.{Sound, lane-fine, opened-small, changed}
 use Rattle.demands.proofs.Marks.{blocksKept, grown-length, emptied, grown-matching}
 
 -- the lane is one of eight, and after the step d it is fine and there is room for it
 pub record Fits (s : State) (i : ℕ) (d : Step) : Type 0 where
   pub small : i < 8
   pub good : fine (laneAfter (laneAt s i) d) ≡ true
-  pub room : need (laneAfter (laneAt s i) d) + others (s .lanes) i ≤ 64
+  pub room : within (set (s .lanes) i (laneAfter (laneAt s i) d)) ≡ true
 
 pub data Stepped (s : State) (i : ℕ) (p : List ℕ) (octets room : ℕ) : Step → Type 0 where
   refuses : (k : ℕ) → (k ≡ 24 → unsound s octets ≡ true) → (k ≡ 19 → ToHold (laneAt s i) p) → Stepped s i p octets room (Refuse k)
@@ -51,21 +51,20 @@ module _ (s : State) (k : Sound s) (i : ℕ) (p : List ℕ) (octets room : ℕ) 
   own = laneAt s i
 
   -- a lane that holds nothing has room, since it had room before
-  room-empty : (l : Lane) → own .opened ≡ true → l .opened ≡ true → l .octets ≡ 0 → l .settings .share ≡ own .settings .share → need l + others (s .lanes) i ≤ 64
-  room-empty l o on none share =
-      omega (arith, need-open own o, need-open l on, room-now s k i (opened-small s k i o), ap blocksFor none ∙ none-held)
+  room-empty : (l : Lane) → own .opened ≡ true → l .opened ≡ true → l .octets ≡ 0 → l .settings .share ≡ own .settings .share → within (set (s .lanes) i l) ≡ true
+  room-empty l o on none share = smaller (s .lanes) i l (omega (arith, need-open own o, need-open l on, ap blocksFor none ∙ none-held)) (k .room)
 
-  settled : {d : Plan} → Planned own p room d → Stepped s i p octets room (settle own (others (s .lanes) i) d)
+  settled : {d : Plan} → Planned own p room d → Stepped s i p octets room (settle (s .lanes) i d)
   unfolding settle laneAfter
   settled (plan.refuses n few h) = refuses n (λ e. absurd (omega arith)) h
   settled plan.repeats = repeats
   settled (plan.strays a o f g) = strays a (record { small = opened-small s k i o; good = g; room = room-empty (laneAfter own (Stray a)) o o refl refl })
   settled (plan.ends a on n o f g e h) = ends a on n (record { small = opened-small s k i o; good = g; room = room-empty (laneAfter own (Unit a on n)) o o refl refl })
-      (omega (arith, accepted-data (own .settings) p f .1)) h
+      (omega (arith, accepted-data (termsOf own) p f .1)) h
   settled (plan.holds a on n o f g e h t) =
-      of-either (Stepped s i p octets room) (leb (need (holding own n) + others (s .lanes) i) 64)
-      (λ r. holds a on n (record { small = opened-small s k i o; good = g; room = omega (arith, need-open (laneAfter own (Hold a on n)) o, need-open (holding own n) o, leb-true (need (holding own n) + others (s .lanes) i) 64 r) })
-      (omega (arith, accepted-data (own .settings) p f .1)))
+      of-either (Stepped s i p octets room) (within (set (s .lanes) i (holding own n)))
+      (λ r. holds a on n (record { small = opened-small s k i o; good = g; room = same-need (s .lanes) i (holding own n) (laneAfter own (Hold a on n)) (need-open (laneAfter own (Hold a on n)) o ∙ sym (need-open (holding own n) o)) r })
+      (omega (arith, accepted-data (termsOf own) p f .1)))
       (λ r. refuses 19 (λ z. absurd (omega arith)) (λ z. t))
 
   pub stepped : Stepped s i p octets room (packetStep s i p octets room)
@@ -96,7 +95,7 @@ module _ (s : State) (k : Sound s) (i : ℕ) where
     sum-after : sum (set (map held (s .lanes)) i (held next)) ≤ 64
     sum-after =
         rw (← held-set (s .lanes) i next)
-        (omega (arith, held-within (set (s .lanes) i next) (fine-set (s .lanes) (k .lanes) i next (f .good)), total-set (s .lanes) i next (omega (arith, k .shape .0, f .small)), f .room))
+        (held-within (set (s .lanes) i next) (fine-set (s .lanes) (k .lanes) i next (f .good)) (f .room))
 
   pub group-grows : (a : Added) (on : Bool) (n u : ℕ) → Fits s i (Hold a on n) → n ≡ cond on (laneAt s i .octets) 0 + u
       → (blocksKept (s .marks) i (laneAt s i) on ≤ blocksFor n) × (blocksFor n ≤ 64)

@@ -1,39 +1,39 @@
 -- What has nothing amiss isn't refused, in any state that a run reaches: its plan is followed test by test. A lane in its share has the room, since its share was
 -- promised.
-use Prim.Native.Nat.{ℕ, _+_, _≤_, _<_, max}
+use Prim.Native.Nat.{ℕ, _+_, _≤_, _<_}
 use Prim.{Unit}
 use mathlib.Core.Path.{_≡_, refl, ap, ap₂, _∙_}
 use mathlib.Core.Bool.{Bool, true, false, not, _&&_, _||_}
 use mathlib.Core.List.{List}
 use native.Mathlib.Omega.{arith}
 use borrow.Author.Tests.{eqb-false, eq-eqb, le-leb, le-ltb, lt-leb}
-use lib.Dec.{eqb, leb}
-use lib.ListN.{length}
+use lib.Dec.{eqb, ltb, leb}
+use lib.ListN.{length, getD, set}
 use Rattle.octets.proofs.Order.{either, both}
-use Rattle.packet.specs.Space.{flags, count}
-use Rattle.record.specs.Record.{recordSize}
+use Rattle.packet.specs.Space.{counts, flags, count}
+use Rattle.record.specs.Record.{mostPackets, recordSize}
 use Rattle.marks.specs.Blocks.{blocksFor}
 use Rattle.lane.specs.declared.Lane.{Lane}
 use Rattle.grouping.specs.declared.Added.{Added}
 use Rattle.grouping.specs.declared.Step.{Step}
 use Rattle.grouping.specs.declared.Step.the-variants.{Refuse, Repeat, Stray, Hold}
 use Rattle.grouping.specs.declared.Step.the-variants as step
-use Rattle.lane.specs.Lane.{held, holding, illegal, talliesPossible, fine}
-use Rattle.grouping.specs.Packets.{fault, userOctets}
+use Rattle.lane.specs.Lane.{held, holding, illegal, talliesPossible, fine, closed}
+use Rattle.grouping.specs.Packets.{termsOf, fault, userOctets}
 use Rattle.grouping.specs.Grouping.{repeats, goesOn, addedFrom}
 use Rattle.grouping.specs.Plans.{holdPlan, unitPlan, groupingPlan, acceptedPlan, packetPlan}
 use Rattle.lane.proofs.Fine.{is-fine}
-use Rattle.intake.specs.declared.State.{State}
-use Rattle.intake.specs.State.{laneAt, total, others}
+use Rattle.state.specs.declared.State.{State}
+use Rattle.state.specs.State.{laneAt, within}
+use Rattle.state.proofs.Within.{share-fits}
 use Rattle.intake.specs.Calls.{openingRefusal, closingRefusal, settle}
 use Rattle.intake.specs.After.{answerOf, opening, closing, taking, takingPool, takingOut}
 use Rattle.demands.specs.Runs as runs
 use Rattle.demands.specs.Runs.{Intake, Start, begun, Call, toOpening, toPacket, reply, run, reached, takes}
-use Rattle.demands.specs.Order.{wouldHold, wouldWrite}
+use Rattle.demands.specs.Order.{wouldGroup, wouldHold, wouldWrite}
 use Rattle.demands.specs.Past.{isRefused}
 use Rattle.demands.specs.Demand3.{NothingAmiss, HasRoom, RoomInShare, GetsRoom, RepeatsChangeNothing, Opens, Closes}
-use Rattle.demands.proofs.Sound.{not-unsound, lane-fine, need-open}
-use Rattle.demands.proofs.Order.{share-fits}
+use Rattle.demands.proofs.Sound.{not-unsound, lane-fine}
 use Rattle.demands.proofs.Calls.{reached-sound}
 use Rattle.demands.proofs.View.{stepFor, run-size, settled, took-reply}
 use Rattle.demands.proofs.Laws.{repeat-leaves}
@@ -57,38 +57,41 @@ taken-reply : (x : Intake) (i : ℕ) (p out : List ℕ) → Taken (stepFor x i p
 unfolding reply taking
 taken-reply x i p out h = taken-told (stepFor x i p out) (takingOut (x .state) i p (x .pool) out) h
 
-module _ (l : Lane) (p : List ℕ) (room o : ℕ) where
-  to-hold : l .opened ≡ true → (a : Added) (on : Bool) (n : ℕ) → blocksFor n ≤ l .settings .cap → max (blocksFor n) (l .settings .share) + o ≤ 64 → Taken (settle l o (holdPlan (l .settings) a on n))
-  unfolding holdPlan settle
-  to-hold open′ a on n most beside = simp (need-open (holding l n) open′, le-ltb (l .settings .cap) (blocksFor n) most, le-leb (max (blocksFor n) (l .settings .share) + o) 64 beside) tt
+module _ (ls : List Lane) (i : ℕ) (p : List ℕ) (room : ℕ) where
+  abbrev own : Lane
+  own = getD ls i closed
 
-  to-end : (a : Added) (on : Bool) (n : ℕ) → n ≤ room → Taken (settle l o (unitPlan room a on n))
+  to-hold : (a : Added) (on : Bool) (n : ℕ) → blocksFor n ≤ own .settings .cap → within (set ls i (holding own n)) ≡ true → Taken (settle ls i (holdPlan (own .settings) a on n))
+  unfolding holdPlan settle
+  to-hold a on n most beside = simp (le-ltb (own .settings .cap) (blocksFor n) most, beside) tt
+
+  to-end : (a : Added) (on : Bool) (n : ℕ) → n ≤ room → Taken (settle ls i (unitPlan room a on n))
   unfolding unitPlan settle
   to-end a on n fits = simp (le-ltb room n fits) tt
 
-  grouping : l .opened ≡ true → wouldHold l p ≤ l .settings .cap → max (wouldHold l p) (l .settings .share) + o ≤ 64 → wouldWrite l p ≤ room
-      → Taken (settle l o (groupingPlan l (flags p) (count p) (userOctets (l .settings) p) room))
-  unfolding groupingPlan wouldHold wouldWrite settle
-  grouping open′ most beside fits =
+  grouping : wouldHold own p ≤ own .settings .cap → within (set ls i (holding own (wouldGroup own p))) ≡ true → wouldWrite own p ≤ room
+      → Taken (settle ls i (groupingPlan own (flags p) (count p) (userOctets (own .settings) p) room))
+  unfolding groupingPlan wouldGroup wouldWrite settle
+  grouping most beside fits =
       let f : ℕ = flags p in
-      let a : Added = addedFrom l f (count p) in
-      let user : ℕ = userOctets (l .settings) p in
+      let a : Added = addedFrom own f (count p) in
+      let user : ℕ = userOctets (own .settings) p in
       either (eqb f 3) (λ e. simp e (to-end a false user (simp e at fits)))
-      (λ no3. simp no3 (either (eqb f 1) (λ e. simp e (to-hold open′ a false user (simp e at most) (simp e at beside)))
-      (λ no1. simp no1 (either (goesOn l f (count p))
-      (λ on. simp on (either (eqb f 0) (λ e. simp e (to-hold open′ a true (l .octets + user) (simp (no1, e, on) at most) (simp (no1, e, on) at beside)))
+      (λ no3. simp no3 (either (eqb f 1) (λ e. simp e (to-hold a false user (simp e at most) (simp e at beside)))
+      (λ no1. simp no1 (either (goesOn own f (count p))
+      (λ on. simp on (either (eqb f 0) (λ e. simp e (to-hold a true (own .octets + user) (simp (no1, e, on) at most) (simp (no1, e, on) at beside)))
       (λ no0.
       let e : eqb f 2 ≡ true = eq-eqb f 2 (omega (arith, eqb-false f 3 no3, eqb-false f 1 no1, eqb-false f 0 no0)) in
-      simp no0 (to-end a true (l .octets + user) (simp (no3, e, on) at fits)))))
+      simp no0 (to-end a true (own .octets + user) (simp (no3, e, on) at fits)))))
       (λ on. simp on tt)))))
 
-  takes-it : l .opened ≡ true → fault (l .settings) p ≡ 0 → Taken (settle l o (acceptedPlan l (flags p) (count p) (userOctets (l .settings) p) room)) → Taken (settle l o (packetPlan l p room))
+  takes-it : own .opened ≡ true → fault (termsOf own) p ≡ 0 → Taken (settle ls i (acceptedPlan own (flags p) (count p) (userOctets (own .settings) p) room)) → Taken (settle ls i (packetPlan own p room))
   unfolding packetPlan
   takes-it open′ sound h = simp (open′, sound) h
 
-  accepts : l .packets < 262144 → Taken (settle l o (groupingPlan l (flags p) (count p) (userOctets (l .settings) p) room)) → Taken (settle l o (acceptedPlan l (flags p) (count p) (userOctets (l .settings) p) room))
+  accepts : own .packets < mostPackets → Taken (settle ls i (groupingPlan own (flags p) (count p) (userOctets (own .settings) p) room)) → Taken (settle ls i (acceptedPlan own (flags p) (count p) (userOctets (own .settings) p) room))
   unfolding acceptedPlan settle
-  accepts few h = either (repeats l (count p)) (λ e. simp e tt) (λ e. simp (e, lt-leb 262144 (l .packets) few) h)
+  accepts few h = either (repeats own (count p)) (λ e. simp e tt) (λ e. simp (e, lt-leb mostPackets (own .packets) few) h)
 
 -- ---- a packet
 module _ (start : Start) (calls : List Call) (i : ℕ) (packet out : List ℕ) where
@@ -98,13 +101,13 @@ module _ (start : Start) (calls : List Call) (i : ℕ) (packet out : List ℕ) w
   abbrev l : Lane
   l = laneAt (x .state) i
 
-  planned : stepFor x i packet out ≡ settle l (others (x .state .lanes) i) (packetPlan l packet (length out))
+  planned : stepFor x i packet out ≡ settle (x .state .lanes) i (packetPlan l packet (length out))
   planned = settled x (reached-sound start calls) (run-size (begun start) calls ∙ start .whole) i packet out
 
   gets : NothingAmiss l packet out → HasRoom (x .state) i packet → isRefused (reply x (takes i packet out)) ≡ false
   gets (open′, sound, few, fits) (most, beside) =
-      let o : ℕ = others (x .state .lanes) i in
-      let h = takes-it l packet (length out) o open′ sound (accepts l packet (length out) o few (grouping l packet (length out) o open′ most beside fits)) in
+      let ls : List Lane = x .state .lanes in
+      let h = takes-it ls i packet (length out) open′ sound (accepts ls i packet (length out) few (grouping ls i packet (length out) most beside fits)) in
       taken-reply x i packet out (rw planned h)
 
 pub gets-room : GetsRoom
@@ -115,7 +118,7 @@ room-in-share start calls i packet out fine′ few =
     let s = reached start calls in
     let k = reached-sound start calls in
     gets start calls i packet out fine′
-    (omega (arith, few, is-fine (laneAt s i) (lane-fine s k i) .legal (fine′ .0) .share), omega (arith, few, share-fits s k i (fine′ .0)))
+    (omega (arith, few, is-fine (laneAt s i) (lane-fine s k i) .legal (fine′ .0) .share), share-fits (s .lanes) i (fine′ .0) (wouldGroup (laneAt s i) packet) few (k .room))
 
 pub repeats-change-nothing : RepeatsChangeNothing
 unfolding packetPlan acceptedPlan settle runs.after taking takingPool
@@ -131,12 +134,12 @@ unfolding reply opening openingRefusal
 opens start calls i settings small shut legal fits =
     let x : Intake = run (begun start) calls in
     ap toOpening (rw (run-size (begun start) calls ∙ start .whole)
-    (simp (not-unsound (x .state) (reached-sound start calls), le-ltb 7 i (omega arith), shut, legal, le-ltb 64 (settings .share + total (x .state .lanes)) fits)))
+    (simp (not-unsound (x .state) (reached-sound start calls), le-ltb 7 i (omega arith), shut, legal, fits)))
 
 tallies-possible : (l : Lane) → fine l ≡ true → talliesPossible l ≡ true
 unfolding fine
 tallies-possible l e =
-    both ((not (l .opened) || not (illegal (l .settings))) && leb (held l) (l .settings .cap) && (l .grouped || eqb (l .octets) 0) && (l .opened || not (l .grouped)) && leb (l .last) 16383)
+    both ((not (l .opened) || not (illegal (l .settings))) && leb (held l) (l .settings .cap) && (l .grouped || eqb (l .octets) 0) && (l .opened || not (l .grouped)) && ltb (l .last) counts)
     (talliesPossible l) e .1
 
 pub closes : Closes

@@ -20,10 +20,10 @@ use Rattle.lane.specs.Lane.{closed}
 use Rattle.grouping.specs.Packets.{userData}
 use Rattle.grouping.specs.Plans.{packetPlan}
 use Rattle.grouping.specs.Steps.{laneAfter}
-use Rattle.intake.specs.declared.State.{State}
-use Rattle.intake.specs.State.{laneAt, others}
-use Rattle.intake.specs.Calls.{openingRefusal, closingRefusal, settle, packetStep}
-use Rattle.intake.specs.After.{openedWith, opening, closing, marksAfter, poolAfter, outAfter, groupOf, userOf, answerOf, answered, taking, takingPool, takingOut}
+use Rattle.state.specs.declared.State.{State}
+use Rattle.state.specs.State.{laneAt}
+use Rattle.intake.specs.Calls.{openedWith, openingRefusal, closingRefusal, settle, packetStep}
+use Rattle.intake.specs.After.{opening, closing, marksAfter, poolAfter, outAfter, groupOf, userOf, answerOf, answered, taking, takingPool, takingOut}
 use Rattle.intake.proofs.Taken.{same-state}
 use Rattle.demands.specs.Runs.{Intake, Call, opens, takes, closes, toPacket, reply, after, run, laneOf}
 use Rattle.demands.specs.Groups.{groupIn, Leaves}
@@ -129,8 +129,8 @@ took-reply x i p out = ap (toPacket (answerOf (stepFor x i p out))) (out-same (x
 
 module _ (x : Intake) (k : Sound (x .state)) (size : length (x .pool) ≡ 16384) where
   module _ (i : ℕ) where
-    -- what is done is settled by the lane and the others' sum
-    pub settled : (p out : List ℕ) → stepFor x i p out ≡ settle (laneAt (x .state) i) (others (x .state .lanes) i) (packetPlan (laneAt (x .state) i) p (length out))
+    -- what is done is settled beside the others
+    pub settled : (p out : List ℕ) → stepFor x i p out ≡ settle (x .state .lanes) i (packetPlan (laneAt (x .state) i) p (length out))
     unfolding packetStep
     settled p out = rw size (simp (not-unsound (x .state) k))
 

@@ -7,8 +7,8 @@ use mir.Val.{Val}
 use denote.Laws.{Is}
 use denote.Ref.{now}
 use denote.Triple.Clauses.{AtExit}
-use Rattle.intake.proofs.State as stateType
-use Rattle.intake.specs.declared.State.{State}
+use Rattle.state.proofs.State as stateType
+use Rattle.state.specs.declared.State.{State}
 use Rattle.demands.specs.Runs.{Shaped}
 use Rattle.demands.specs.Contract.{Function, Lives, Inputs, Result, OfTypes, Fact, Promises, Ends, Determined}
 use Rattle.demands.specs.Functions.{Public, the-entry, function}
@@ -52,12 +52,12 @@ closing = record {
 
 abbrev pub view : (n : Name) → View (function (the-entry n)) (entry n)
 view name.read-packet = record { given = λ κs (s, e) h. now s; answer = λ κs r s. r; left = λ κs r s. tt }
-view name.packet-at = record { given = λ κs (s, (at, e)) h. record { octets = now s; at = at }; answer = λ κs r s. r; left = λ κs r s. tt }
+view name.look-at = record { given = λ κs (s, (at, e)) h. record { octets = now s; at = at }; answer = λ κs r s. r; left = λ κs r s. tt }
 view name.write-space = record {
-  given = λ κs (kind, (secondary, (apid, (flags, (count, (field, (out, e))))))) h.
-      record { kind = kind; secondary = secondary; apid = apid; flags = flags; count = count; field = now field; out = now out };
+  given = λ κs (packetType, (secondary, (apid, (flags, (count, (field, (out, e))))))) h.
+      record { packetType = packetType; secondary = secondary; apid = apid; flags = flags; count = count; field = now field; out = now out };
   answer = λ κs r s. r;
-  left = λ κs r (kind, (secondary, (apid, (flags, (count, (field, (out, e))))))). now out;
+  left = λ κs r (packetType, (secondary, (apid, (flags, (count, (field, (out, e))))))). now out;
 }
 view name.write-encapsulation = record {
   given = λ κs (protocol, (user, (extension, (content, (out, e))))) h. record { protocol = protocol; user = user; extension = extension; content = now content; out = now out };
@@ -76,10 +76,10 @@ view name.branmuslin-read-packet = record {
   left = λ κs r (octets, (numbers, e)). now numbers;
 }
 view name.branmuslin-write-space = record {
-  given = λ κs (kind, (secondary, (apid, (flags, (count, (field, (out, (written, e)))))))) h.
-      record { packet = record { kind = kind; secondary = secondary; apid = apid; flags = flags; count = count; field = now field; out = now out }; written = now written };
+  given = λ κs (packetType, (secondary, (apid, (flags, (count, (field, (out, (written, e)))))))) h.
+      record { packet = record { packetType = packetType; secondary = secondary; apid = apid; flags = flags; count = count; field = now field; out = now out }; written = now written };
   answer = λ κs r s. r;
-  left = λ κs r (kind, (secondary, (apid, (flags, (count, (field, (out, (written, e)))))))). (now out, now written);
+  left = λ κs r (packetType, (secondary, (apid, (flags, (count, (field, (out, (written, e)))))))). (now out, now written);
 }
 view name.branmuslin-write-encapsulation = record {
   given = λ κs (protocol, (user, (extension, (content, (out, (written, e)))))) h.

@@ -27,7 +27,7 @@ use Rattle.record.specs.declared.RecordFile.the-variants.{Records}
 use Rattle.lane.specs.declared.Lane.{Lane}
 use Rattle.lane.specs.Lane as lane
 use Rattle.intake.specs.declared.Answer.the-variants.{Repeat}
-use Rattle.intake.specs.State.{laneAt}
+use Rattle.state.specs.State.{laneAt}
 use Rattle.demands.specs.Runs.{Start, begun, Call, opens, takes, closes, Reply, toOpening, toPacket, toClosing, run, reached, replied, laneOf}
 use Rattle.demands.specs.Groups.{groupIn}
 use Rattle.demands.specs.Rule.{Accepted, present, octetsIn, repeats, group, unit, answerTo, endings, units, missingInAll, broken, lastCount, credit}

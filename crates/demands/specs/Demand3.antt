@@ -2,29 +2,30 @@
 -- Take a source's own calls, run by themselves, in which no packet would bring its held group above its share. If the shared run refuses none of its
 -- openings for want of a promisable share, that source gets the same answers, units and credit in the shared run, given the same settings and output
 -- space. No source ever holds more than its cap. No block belongs to two sources, and a freed block can be used again.
-use Prim.Native.Nat.{ℕ, _+_, _/_, _≤_, _<_, max}
+use Prim.Native.Nat.{ℕ, _+_, _/_, _≤_, _<_}
 use mathlib.Core.Path.{_≡_}
 use mathlib.Core.Bool.{Bool, true, false, cond, _&&_}
 use mathlib.Core.List.{List, [], _∷_, _++_, map}
 use mathlib.Core.Logic.{_⊎_}
-use lib.ListN.{length, getD, take}
+use lib.ListN.{length, getD, set, take}
 use lib.Dec.{eqb, ltb}
 use Rattle.packet.specs.Space as space
 use Rattle.packet.specs.Space.{flags}
-use Rattle.record.specs.Record.{recordSize}
+use Rattle.record.specs.Record.{mostPackets, recordSize}
 use Rattle.marks.specs.Blocks.{blockOctets, free, mark, freed}
 use Rattle.pool.specs.Octets.{place}
 use Rattle.marks.specs.Matching.{count, isFree, sum}
 use Rattle.lane.specs.declared.Settings.{Settings}
 use Rattle.lane.specs.declared.Lane.{Lane}
 use Rattle.lane.specs.Lane.{held, illegal}
-use Rattle.grouping.specs.Packets.{fault}
+use Rattle.grouping.specs.Packets.{termsOf, fault}
 use Rattle.grouping.specs.Grouping.{repeats}
-use Rattle.intake.specs.declared.State.{State}
+use Rattle.state.specs.declared.State.{State}
 use Rattle.intake.specs.declared.Answer.the-variants.{Repeat, Held}
-use Rattle.intake.specs.State.{laneAt, total, others}
+use Rattle.state.specs.State.{laneAt, within}
+use Rattle.intake.specs.Calls.{openedWith}
 use Rattle.demands.specs.Runs.{Intake, Start, begun, Call, opens, takes, closes, Reply, toOpening, toPacket, after, run, replies, reached, replied, next, laneOf, own, repliesTo}
-use Rattle.demands.specs.Order.{wouldHold, wouldWrite}
+use Rattle.demands.specs.Order.{wouldHold, lanesWith, wouldWrite}
 use Rattle.demands.specs.Past.{isRefused}
 
 -- ---- the same answers, units and credit as alone
@@ -50,7 +51,7 @@ AsAlone =
 -- a packet with nothing amiss but perhaps the room: its lane is open and hasn't taken too many, it has no fault, and the unit that it ends, if it ends one,
 -- fits the output
 abbrev pub NothingAmiss : Lane → List ℕ → List ℕ → Type 0
-NothingAmiss l packet out = (l .opened ≡ true) × (fault (l .settings) packet ≡ 0) × (l .packets < 262144) × (wouldWrite l packet ≤ length out)
+NothingAmiss l packet out = (l .opened ≡ true) × (fault (termsOf l) packet ≡ 0) × (l .packets < mostPackets) × (wouldWrite l packet ≤ length out)
 
 -- a lane in its share isn't refused room
 abbrev pub RoomInShare : Type 0
@@ -63,7 +64,7 @@ RoomInShare =
 abbrev pub HasRoom : State → ℕ → List ℕ → Type 0
 HasRoom s i packet =
     (wouldHold (laneAt s i) packet ≤ laneAt s i .settings .cap)
-    × (max (wouldHold (laneAt s i) packet) (laneAt s i .settings .share) + others (s .lanes) i ≤ 64)
+    × (within (lanesWith s i packet) ≡ true)
 
 abbrev pub GetsRoom : Type 0
 GetsRoom =
@@ -74,14 +75,14 @@ GetsRoom =
 abbrev pub RepeatsChangeNothing : Type 0
 RepeatsChangeNothing =
     (start : Start) (calls : List Call) (i : ℕ) (packet out : List ℕ)
-    → laneAt (reached start calls) i .opened ≡ true → fault (laneAt (reached start calls) i .settings) packet ≡ 0
+    → laneAt (reached start calls) i .opened ≡ true → fault (termsOf (laneAt (reached start calls) i)) packet ≡ 0
     → repeats (laneAt (reached start calls) i) (space.count packet) ≡ true
     → (replied start calls (takes i packet out) ≡ toPacket Repeat out) × (after (run (begun start) calls) (takes i packet out) ≡ run (begun start) calls)
 
 abbrev pub Opens : Type 0
 Opens =
     (start : Start) (calls : List Call) (i : ℕ) (settings : Settings) → i < 8 → laneAt (reached start calls) i .opened ≡ false
-    → illegal settings ≡ false → settings .share + total (reached start calls .lanes) ≤ 64
+    → illegal settings ≡ false → within (set (reached start calls .lanes) i (openedWith settings)) ≡ true
     → replied start calls (opens i settings) ≡ toOpening 0
 
 abbrev pub Closes : Type 0
@@ -172,8 +173,8 @@ marked s i packet b holds =
 
 abbrev pub TakesLowest : Type 0
 TakesLowest =
-    (start : Start) (calls : List Call) (i : ℕ) (packet out left : List ℕ) (m : ℕ) (gave : Bool) (b : ℕ) → b < 64
-    → replied start calls (takes i packet out) ≡ toPacket (Held m gave) left
+    (start : Start) (calls : List Call) (i : ℕ) (packet out left : List ℕ) (m : ℕ) (givenUp : Bool) (b : ℕ) → b < 64
+    → replied start calls (takes i packet out) ≡ toPacket (Held m givenUp) left
     → markAt (next start calls (takes i packet out)) b ≡ marked (reached start calls) i packet b (held (laneAt (next start calls (takes i packet out)) i))
 
 -- so: a block that a call of one lane frees, and that the next packet, of whatever lane, needs and has the room for, is that lane's

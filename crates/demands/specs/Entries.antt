@@ -10,6 +10,8 @@ use Rattle.octets.specs.Output.{leading}
 use Rattle.packet.specs.declared.Packet.{Packet}
 use Rattle.reading.specs.Reading.{readingTests, reading}
 use Rattle.packet.specs.Told as packetTold
+use Rattle.walk.specs.declared.Found.{Found}
+use Rattle.walk.specs.Walk.{Finds}
 use Rattle.writing.specs.declared.Written.{Written}
 use Rattle.writing.specs.Space.{spaceTests, spaceTold, spaceAfter}
 use Rattle.writing.specs.Encapsulation.{encapTests, encapTold, encapAfter}
@@ -22,7 +24,7 @@ use Rattle.record.specs.Reading.{recordTests, recordReading, fileTests, fileRea
 use Rattle.record.specs.Writing.{writingTests, recordTold, recordAfter}
 use Rattle.record.specs.Told.{toldRead, toldWritten, toldFile}
 use Rattle.lane.specs.declared.Settings.{Settings}
-use Rattle.intake.specs.declared.State.{State}
+use Rattle.state.specs.declared.State.{State}
 use Rattle.intake.specs.declared.Changed.{Changed}
 use Rattle.intake.specs.declared.Answer.{Answer}
 use Rattle.intake.specs.declared.Answered.{Answered}
@@ -45,25 +47,25 @@ readPacket = record {
   Permits = λ s a l. packetTold.told a ≡ reading s;
 }
 
--- the same of the packet at index at of some octets
+-- the same of what is found at index at of some octets
 pub record Place : Type 0 where
   pub octets : List ℕ
   pub at : ℕ
 
-abbrev pub packetAt : Entry
-packetAt = record {
+abbrev pub lookAt : Entry
+lookAt = record {
   Given = Place;
-  Answer = Packet;
+  Answer = Found;
   Lent = Unit {0};
   before = λ g. tt;
-  number = λ a. leading (packetTold.told a);
+  number = λ a. a .refused;
   tests = λ g. readingTests (drop (g .at) (g .octets));
-  Permits = λ g a l. packetTold.told a ≡ reading (drop (g .at) (g .octets));
+  Permits = λ g a l. Finds (g .octets) (g .at) a;
 }
 
 -- ---- Writing: 8, then 3 or 7 and 6, then 10, 9
 pub record SpacePacket : Type 0 where
-  pub kind : ℕ
+  pub packetType : ℕ
   pub secondary : ℕ
   pub apid : ℕ
   pub flags : ℕ
@@ -78,10 +80,10 @@ writeSpace = record {
   Lent = List ℕ;
   before = λ g. g .out;
   number = λ a. leading (writingTold.told a);
-  tests = λ g. spaceTests (g .kind) (g .secondary) (g .apid) (g .flags) (g .count) (length (g .field)) (length (g .out));
+  tests = λ g. spaceTests (g .packetType) (g .secondary) (g .apid) (g .flags) (g .count) (length (g .field)) (length (g .out));
   Permits = λ g a out.
-      (writingTold.told a ≡ spaceTold (g .kind) (g .secondary) (g .apid) (g .flags) (g .count) (g .field) (g .out))
-      × (out ≡ spaceAfter (g .kind) (g .secondary) (g .apid) (g .flags) (g .count) (g .field) (g .out));
+      (writingTold.told a ≡ spaceTold (g .packetType) (g .secondary) (g .apid) (g .flags) (g .count) (g .field) (g .out))
+      × (out ≡ spaceAfter (g .packetType) (g .secondary) (g .apid) (g .flags) (g .count) (g .field) (g .out));
 }
 
 pub record EncapsulationPacket : Type 0 where

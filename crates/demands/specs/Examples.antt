@@ -9,7 +9,7 @@ use Rattle.writing.specs.Space.{spaceOctets}
 use Rattle.pool.specs.Octets.{poolOctets}
 use Rattle.marks.specs.Matching.{count, isFree}
 use Rattle.lane.specs.declared.Settings.{Settings}
-use Rattle.intake.specs.declared.State.{State}
+use Rattle.state.specs.declared.State.{State}
 use Rattle.intake.specs.declared.Answer.the-variants.{Refused, Repeat, Stray, Held, Unit}
 use Rattle.demands.specs.Runs.{Intake, Start, begun, filled, Call, opens, takes, closes, Reply, toOpening, toPacket, toClosing, after, replies, own, repliesTo}
 use Rattle.demands.specs.Demand3.{StaysInShare, NoneUnpromised}

@@ -17,7 +17,7 @@ use Rattle.lanes.specs.declared.Numbered.{Numbered}
 use Rattle.lanes.specs.Numbers.{numbered}
 use Rattle.demands.specs.Entry.{Entry}
 use Rattle.demands.specs.Entries.{SpacePacket, EncapsulationPacket, RecordGiven, Taking}
-use Rattle.demands.specs.Entries.{readPacket, packetAt, writeSpace, writeEncapsulation, readRecord, readRecordFile, writeRecord, openLane, takePacket, closeLane}
+use Rattle.demands.specs.Entries.{readPacket, lookAt, writeSpace, writeEncapsulation, readRecord, readRecordFile, writeRecord, openLane, takePacket, closeLane}
 
 -- octets, and the numbers of a struct that is lent
 pub record Reading : Type 0 where
@@ -60,9 +60,9 @@ writeSpaceC = record {
   number = λ a. a;
   tests = λ g. writeSpace .tests (g .packet);
   Permits = λ h a l. let g = h .packet in
-      (a ≡ spaceRefusal (g .kind) (g .secondary) (g .apid) (g .flags) (g .count) (length (g .field)) (length (g .out)))
-      × ((l .0 ≡ spaceAfter (g .kind) (g .secondary) (g .apid) (g .flags) (g .count) (g .field) (g .out))
-      × (l .1 ≡ spaceWrittenAfter (g .kind) (g .secondary) (g .apid) (g .flags) (g .count) (g .field) (g .out) (h .written)));
+      (a ≡ spaceRefusal (g .packetType) (g .secondary) (g .apid) (g .flags) (g .count) (length (g .field)) (length (g .out)))
+      × ((l .0 ≡ spaceAfter (g .packetType) (g .secondary) (g .apid) (g .flags) (g .count) (g .field) (g .out))
+      × (l .1 ≡ spaceWrittenAfter (g .packetType) (g .secondary) (g .apid) (g .flags) (g .count) (g .field) (g .out) (h .written)));
 }
 
 abbrev pub writeEncapsulationC : Entry
@@ -112,12 +112,12 @@ readRecordFileC = record {
 pub record InNumbers : Type 0 where
   pub refusal : ℕ
   pub kind : ℕ
-  pub broke : Bool
+  pub «given_up» : Bool
   pub missing : ℕ
   pub octets : ℕ
 
 abbrev pub withoutState : Numbered → InNumbers
-withoutState r = record { refusal = r .refusal; kind = r .kind; broke = r .broke; missing = r .missing; octets = r .octets }
+withoutState r = record { refusal = r .refusal; kind = r .kind; «given_up» = r .«given_up»; missing = r .missing; octets = r .octets }
 
 abbrev pub takePacketC : Entry
 takePacketC = record {
@@ -128,7 +128,7 @@ takePacketC = record {
   number = λ a. a .refusal;
   tests = takePacket .tests;
   Permits = λ g a l.
-      (_≡_ {A = Numbered} (record { refusal = a .refusal; kind = a .kind; broke = a .broke; missing = a .missing; octets = a .octets; state = l .0 })
+      (_≡_ {A = Numbered} (record { refusal = a .refusal; kind = a .kind; «given_up» = a .«given_up»; missing = a .missing; octets = a .octets; state = l .0 })
       (numbered (taking (g .state) (g .lane) (g .packet) (length (g .pool)) (length (g .out)))))
       × ((l .1 ≡ takingPool (g .state) (g .lane) (g .packet) (length (g .out)) (g .pool))
       × (l .2 ≡ takingOut (g .state) (g .lane) (g .packet) (g .pool) (g .out)));
@@ -137,7 +137,7 @@ takePacketC = record {
 -- ---- all public entries
 pub data Name : Type 0 where
   read-packet : Name
-  packet-at : Name
+  look-at : Name
   write-space : Name
   write-encapsulation : Name
   read-record : Name
@@ -158,7 +158,7 @@ pub data Name : Type 0 where
 
 abbrev pub entry : Name → Entry
 entry read-packet = readPacket
-entry packet-at = packetAt
+entry look-at = lookAt
 entry write-space = writeSpace
 entry write-encapsulation = writeEncapsulation
 entry read-record = readRecord

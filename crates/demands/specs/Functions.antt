@@ -2,7 +2,7 @@
 use mathlib.Core.Path.{_≡_}
 use denote.Ref.{ptr, now}
 use Rattle.reading.proofs.read_packet as readPacket
-use Rattle.walk.proofs.packet_at as packetAt
+use Rattle.walk.proofs.look_at as lookAt
 use Rattle.writing.proofs.write_space as writeSpace
 use Rattle.writing.proofs.write_encapsulation as writeEncapsulation
 use Rattle.record.proofs.read_record as readRecord
@@ -23,10 +23,10 @@ use Rattle.lanes.proofs.branmuslin_close_lane as branmuslinCloseLane
 use Rattle.octets.proofs.octet_at as octetAt
 use Rattle.octets.proofs.be16_at as be16At
 use Rattle.octets.proofs.be32_at as be32At
-use Rattle.octets.proofs.put_octets as putOctets
-use Rattle.octets.proofs.put_octet as putOctet
-use Rattle.octets.proofs.put_be16 as putBe16
-use Rattle.octets.proofs.put_be32 as putBe32
+use Rattle.putting.proofs.put_octets as putOctets
+use Rattle.putting.proofs.put_octet as putOctet
+use Rattle.putting.proofs.put_be16 as putBe16
+use Rattle.putting.proofs.put_be32 as putBe32
 use Rattle.numbers.proofs.one_if as oneIf
 use Rattle.numbers.proofs.smaller as smallerOf
 use Rattle.numbers.proofs.larger as largerOf
@@ -44,13 +44,14 @@ use Rattle.marks.proofs.free_blocks as freeBlocks
 use Rattle.marks.proofs.marks_match as marksMatch
 use Rattle.pool.proofs.store_octets as storeOctets
 use Rattle.pool.proofs.gather_octets as gatherOctets
-use Rattle.lane.proofs.need_with as needWith
 use Rattle.lane.proofs.need_of as needOf
 use Rattle.lane.proofs.is_illegal as isIllegal
 use Rattle.lane.proofs.is_fine as isFine
 use Rattle.grouping.proofs.plan_packet as planPacket
-use Rattle.intake.proofs.fresh_start as freshStart
-use Rattle.intake.proofs.is_sound as isSound
+use Rattle.state.proofs.fresh_start as freshStart
+use Rattle.state.proofs.is_within as isWithin
+use Rattle.state.proofs.is_sound as isSound
+use Rattle.state.proofs.is_unsound as isUnsound
 use Rattle.lanes.proofs.branmuslin_fresh_start as branmuslinFreshStart
 use Rattle.lanes.proofs.branmuslin_is_sound as branmuslinIsSound
 use Rattle.text.proofs.put as putText
@@ -60,7 +61,9 @@ use Rattle.listing.proofs.list as listAll
 use Rattle.listing.proofs.list_recording as listRecording
 use Rattle.listing.proofs.octets_of as octetsOf
 use Rattle.listing.proofs.written as writtenPart
-use Rattle.replaying.proofs.begin as beginRun
+use Rattle.adler.proofs.adler32 as adlerOf
+use Rattle.runfile.proofs.begin as beginRun
+use Rattle.runfile.proofs.call_in as callIn
 use Rattle.replaying.proofs.replay_some as replaySome
 use Rattle.demands.specs.Contract.{Function, valued}
 use Rattle.demands.specs.Exported as name
@@ -92,13 +95,14 @@ pub data Public : Type 0 where
   marks-match : Public
   store-octets : Public
   gather-octets : Public
-  need-with : Public
   need-of : Public
   is-illegal : Public
   is-fine : Public
   plan-packet : Public
   fresh-start : Public
+  is-within : Public
   is-sound : Public
+  is-unsound : Public
   branmuslin-fresh-start : Public
   branmuslin-is-sound : Public
   put : Public
@@ -108,12 +112,14 @@ pub data Public : Type 0 where
   list-recording : Public
   octets-of : Public
   written : Public
+  adler32 : Public
   begin : Public
+  call-in : Public
   replay-some : Public
 
 abbrev named : Name → Function
 named name.read-packet = valued readPacket.ended (λ M. readPacket.clauses) readPacket.Symbol.routine
-named name.packet-at = valued packetAt.ended (λ M. packetAt.clauses) packetAt.Symbol.routine
+named name.look-at = valued lookAt.ended (λ M. lookAt.clauses) lookAt.Symbol.routine
 named name.write-space = valued writeSpace.ended (λ M. writeSpace.clauses) writeSpace.Symbol.routine
 named name.write-encapsulation = valued writeEncapsulation.ended (λ M. writeEncapsulation.clauses) writeEncapsulation.Symbol.routine
 named name.read-record = valued readRecord.ended (λ M. readRecord.clauses) readRecord.Symbol.routine
@@ -160,13 +166,14 @@ function free-blocks = valued freeBlocks.ended (λ M. freeBlocks.clauses) freeBl
 function marks-match = valued marksMatch.ended (λ M. marksMatch.clauses) marksMatch.Symbol.routine
 function store-octets = valued storeOctets.ended (λ M. storeOctets.clauses) storeOctets.Symbol.routine
 function gather-octets = valued gatherOctets.ended (λ M. gatherOctets.clauses) gatherOctets.Symbol.routine
-function need-with = valued needWith.ended (λ M. needWith.clauses) needWith.Symbol.routine
 function need-of = valued needOf.ended (λ M. needOf.clauses) needOf.Symbol.routine
 function is-illegal = valued isIllegal.ended (λ M. isIllegal.clauses) isIllegal.Symbol.routine
 function is-fine = valued isFine.ended (λ M. isFine.clauses) isFine.Symbol.routine
 function plan-packet = valued planPacket.ended (λ M. planPacket.clauses) planPacket.Symbol.routine
 function fresh-start = valued freshStart.ended (λ M. freshStart.clauses) freshStart.Symbol.routine
+function is-within = valued isWithin.ended (λ M. isWithin.clauses) isWithin.Symbol.routine
 function is-sound = valued isSound.ended (λ M. isSound.clauses) isSound.Symbol.routine
+function is-unsound = valued isUnsound.ended (λ M. isUnsound.clauses) isUnsound.Symbol.routine
 function branmuslin-fresh-start = valued branmuslinFreshStart.ended (λ M. branmuslinFreshStart.clauses) branmuslinFreshStart.Symbol.routine
 function branmuslin-is-sound = valued branmuslinIsSound.ended (λ M. branmuslinIsSound.clauses) branmuslinIsSound.Symbol.routine
 function put = valued putText.ended (λ M. putText.clauses) putText.Symbol.routine
@@ -177,5 +184,7 @@ function list-recording = valued listRecording.ended (λ M. listRecording.clause
 function octets-of = valued octetsOf.ended (λ M. octetsOf.clauses) octetsOf.Symbol.routine
 function written =
     record { ended = writtenPart.ended; clauses = λ M. writtenPart.clauses; routine = writtenPart.Symbol.routine; Same = λ κs r q. (ptr r ≡ ptr q) × (now r ≡ now q) }
+function adler32 = valued adlerOf.ended (λ M. adlerOf.clauses) adlerOf.Symbol.routine
 function begin = valued beginRun.ended (λ M. beginRun.clauses) beginRun.Symbol.routine
+function call-in = valued callIn.ended (λ M. callIn.clauses) callIn.Symbol.routine
 function replay-some = valued replaySome.ended (λ M. replaySome.clauses) replaySome.Symbol.routine

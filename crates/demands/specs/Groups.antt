@@ -5,8 +5,8 @@ use mathlib.Core.List.{List}
 use Rattle.marks.specs.Blocks.{mark}
 use Rattle.pool.specs.Octets.{gathered}
 use Rattle.lane.specs.Lane.{held}
-use Rattle.intake.specs.declared.State.{State}
-use Rattle.intake.specs.State.{laneAt}
+use Rattle.state.specs.declared.State.{State}
+use Rattle.state.specs.State.{laneAt}
 
 abbrev pub groupIn : State → List ℕ → ℕ → List ℕ
 groupIn s pool j = gathered (s .marks) j pool 0 (laneAt s j .octets)

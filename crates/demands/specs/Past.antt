@@ -29,18 +29,18 @@ abbrev pub isRefused : Reply → Bool
 isRefused (toOpening refusal) = not (eqb refusal 0)
 isRefused (toPacket (Refused number) out) = true
 isRefused (toPacket Repeat out) = false
-isRefused (toPacket (Stray missing gave) out) = false
-isRefused (toPacket (Held missing gave) out) = false
-isRefused (toPacket (Unit octets missing gave) out) = false
+isRefused (toPacket (Stray missing givenUp) out) = false
+isRefused (toPacket (Held missing givenUp) out) = false
+isRefused (toPacket (Unit octets missing givenUp) out) = false
 isRefused (toClosing refusal out) = not (eqb refusal 0)
 
 abbrev pub isAccepted : Reply → Bool
 isAccepted (toOpening refusal) = false
 isAccepted (toPacket (Refused number) out) = false
 isAccepted (toPacket Repeat out) = false
-isAccepted (toPacket (Stray missing gave) out) = true
-isAccepted (toPacket (Held missing gave) out) = true
-isAccepted (toPacket (Unit octets missing gave) out) = true
+isAccepted (toPacket (Stray missing givenUp) out) = true
+isAccepted (toPacket (Held missing givenUp) out) = true
+isAccepted (toPacket (Unit octets missing givenUp) out) = true
 isAccepted (toClosing refusal out) = false
 
 abbrev pub withPacket : Past → List ℕ → Past
@@ -66,9 +66,9 @@ abbrev pub isUnit : Reply → Bool
 isUnit (toOpening refusal) = false
 isUnit (toPacket (Refused number) out) = false
 isUnit (toPacket Repeat out) = false
-isUnit (toPacket (Stray missing gave) out) = false
-isUnit (toPacket (Held missing gave) out) = false
-isUnit (toPacket (Unit octets missing gave) out) = true
+isUnit (toPacket (Stray missing givenUp) out) = false
+isUnit (toPacket (Held missing givenUp) out) = false
+isUnit (toPacket (Unit octets missing givenUp) out) = true
 isUnit (toClosing refusal out) = false
 
 abbrev pub unitsToldAfter : ℕ → Call → Reply → ℕ

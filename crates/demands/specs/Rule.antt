@@ -7,6 +7,7 @@ use lib.ListN.{length}
 use lib.Dec.{eqb, ltb}
 use Rattle.octets.specs.Octets.{one}
 use Rattle.octets.specs.Order.{_gives_, first}
+use Rattle.packet.specs.Space.{counts}
 use Rattle.record.specs.declared.Record.{Record}
 use Rattle.lane.specs.declared.Settings.{Settings}
 use Rattle.intake.specs.declared.Answer.{Answer}
@@ -39,7 +40,7 @@ repeats (last ∷ before) p = eqb (p .count) (last .count)
 -- missing = (count - last - 1) mod 16,384, or 0 for the first packet
 unfoldable pub missing : List Accepted → Accepted → ℕ
 missing [] p = 0
-missing (last ∷ before) p = (p .count + 16384 - last .count - 1) % 16384
+missing (last ∷ before) p = (p .count + counts - last .count - 1) % counts
 
 -- 1. An open group is given up if missing is above 0, or if the flags are 1 or 3
 unfoldable pub breaks : List Accepted → Accepted → Bool
@@ -69,9 +70,9 @@ givesUp before p = present (group before) && breaks before p
 
 -- The answer is Stray, Held or Unit with its length, and tells missing and whether a group was given up
 abbrev pub answerWith : Option (List ℕ) → Option (List ℕ) → ℕ → Bool → Answer
-answerWith (some octets) held m gave = Unit (length octets) m gave
-answerWith none (some octets) m gave = Held m gave
-answerWith none none m gave = Stray m gave
+answerWith (some octets) held m givenUp = Unit (length octets) m givenUp
+answerWith none (some octets) m givenUp = Held m givenUp
+answerWith none none m givenUp = Stray m givenUp
 
 unfoldable pub answerTo : List Accepted → Accepted → Answer
 answerTo before p = answerWith (unit before p) (group (p ∷ before)) (missing before p) (givesUp before p)

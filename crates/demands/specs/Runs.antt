@@ -8,9 +8,9 @@ use lib.ListN.{length, replicate, length-replicate}
 use lib.Dec.{eqb}
 use Rattle.pool.specs.Octets.{poolOctets}
 use Rattle.lane.specs.declared.Settings.{Settings}
-use Rattle.intake.specs.declared.State.{State}
+use Rattle.state.specs.declared.State.{State}
 use Rattle.intake.specs.declared.Answer.{Answer}
-use Rattle.intake.specs.State.{freshState}
+use Rattle.state.specs.State.{freshState}
 use Rattle.intake.specs.After.{opening, closing, closingOut, taking, takingPool, takingOut}
 
 -- a state has eight lanes and 64 marks, as the lengths of its arrays say

@@ -11,7 +11,7 @@ use Rattle.record.specs.Record.{recordOctets}
 use Rattle.lane.specs.declared.Lane.{Lane}
 use Rattle.intake.specs.declared.Answer.{Answer}
 use Rattle.intake.specs.declared.Answer.the-variants.{Refused, Repeat, Stray, Held, Unit}
-use Rattle.intake.specs.State.{laneAt}
+use Rattle.state.specs.State.{laneAt}
 use Rattle.demands.specs.Runs.{Intake, Start, begun, Call, takes, closes, Reply, toOpening, toPacket, toClosing, reply, after, names}
 use Rattle.demands.specs.Rule.{missing, credit}
 use Rattle.demands.specs.Past.{Past, shut, since, acceptedOf, isRefused, later}
@@ -87,9 +87,9 @@ abbrev pub missingTold : Reply → Option ℕ
 missingTold (toOpening refusal) = none
 missingTold (toPacket (Refused number) out) = none
 missingTold (toPacket Repeat out) = none
-missingTold (toPacket (Stray m gave) out) = some m
-missingTold (toPacket (Held m gave) out) = some m
-missingTold (toPacket (Unit octets m gave) out) = some m
+missingTold (toPacket (Stray m givenUp) out) = some m
+missingTold (toPacket (Held m givenUp) out) = some m
+missingTold (toPacket (Unit octets m givenUp) out) = some m
 missingTold (toClosing refusal out) = none
 
 abbrev pub missingBy : Past → List ℕ → Option ℕ

@@ -14,7 +14,7 @@ use Rattle.packet.specs.Space.{version, packetType, secondary, apid, dataOctets
 use Rattle.reading.specs.Reading.{isEncapsulation, header, size, refusal, content}
 use Rattle.reading.specs.Causes.{Whole, space, encapsulation}
 use Rattle.reading.proofs.Exactly.{exactly-whole, verdict, whole-gives, gives, numbered}
-use Rattle.lane.specs.declared.Settings.{Settings}
+use Rattle.grouping.specs.declared.Terms.{Terms}
 use Rattle.grouping.specs.Packets.{misflags, fault, userData, userOctets}
 
 -- a test that gives a number passes where the answer is 0
@@ -23,48 +23,48 @@ passes true k rest h e = absurd (omega (arith, h refl))
 passes false k rest h e = (refl, e)
 
 -- what is known of it
-pub record Accepted (l : Settings) (s : List ℕ) : Type 0 where
+pub record Accepted (t : Terms) (s : List ℕ) : Type 0 where
   pub read : refusal s ≡ 0
   pub kind : version s ≡ 0
   pub whole : length s ≡ spaceSize s
-  pub long : l .secondary ≤ dataOctets s
+  pub long : t .settings .secondary ≤ dataOctets s
 
-module _ (l : Settings) (s : List ℕ) where
+module _ (t : Terms) (s : List ℕ) where
   of-whole : Whole s → isEncapsulation s ≡ false → (version s ≡ 0) × (spaceSize s ≤ length s)
-  of-whole (space t h) e = (t .0 .0 .1, h)
-  of-whole (encapsulation t h) e = absurd (eqb-false (version s) 7 e (t .0 .0 .0 .0 .0 .1))
+  of-whole (space w h) e = (w .0 .0 .1, h)
+  of-whole (encapsulation w h) e = absurd (eqb-false (version s) 7 e (w .0 .0 .0 .0 .0 .1))
 
-  pub accepted : fault l s ≡ 0 → Accepted l s
+  pub accepted : fault t s ≡ 0 → Accepted t s
   unfolding fault size
   accepted e =
-      let a = passes (not (eqb (refusal s) 0)) (refusal s) _ (λ t. omega (arith, eqb-false (refusal s) 0 (not-true _ t))) e in
-      let b = passes (ltb (size s) (length s)) 12 _ (λ t. omega arith) (a .1) in
-      let c = passes (isEncapsulation s) 13 _ (λ t. omega arith) (b .1) in
-      let d = passes (eqb (packetType s) 1) 14 _ (λ t. omega arith) (c .1) in
-      let f = passes (not (eqb (apid s) (l .apid))) 15 _ (λ t. omega arith) (d .1) in
-      let g = passes (misflags (secondary s) (l .secondary)) 16 _ (λ t. omega arith) (f .1) in
-      let h = passes (ltb (dataOctets s) (l .secondary)) 17 0 (λ t. omega arith) (g .1) in
+      let a = passes (not (eqb (refusal s) 0)) (refusal s) _ (λ z. omega (arith, eqb-false (refusal s) 0 (not-true _ z))) e in
+      let b = passes (ltb (size s) (length s)) 12 _ (λ z. omega arith) (a .1) in
+      let c = passes (isEncapsulation s) 13 _ (λ z. omega arith) (b .1) in
+      let d = passes (eqb (packetType s) 1) 14 _ (λ z. omega arith) (c .1) in
+      let f = passes (not (eqb (apid s) (t .settings .apid))) 15 _ (λ z. omega arith) (d .1) in
+      let g = passes (misflags (secondary s) (t .settings .secondary)) 16 _ (λ z. omega arith) (f .1) in
+      let h = passes (ltb (dataOctets s) (t .settings .secondary)) 17 0 (λ z. omega arith) (g .1) in
       let read : refusal s ≡ 0 = eqb-true (refusal s) 0 (not-false _ (a .0)) in
       let w = of-whole (exactly-whole s .0 read) (c .0) in
       let most : length s ≤ spaceSize s = simp (eq-eqb (version s) 0 (w .0)) at (ltb-false (size s) (length s) (b .0)) in
       record { read = read; kind = w .0; whole = omega (arith, w .1); long = ltb-false _ _ (h .0) }
 
-  pub accepted-data : fault l s ≡ 0 → (userData l s ≡ drop (6 + l .secondary) s) × (length (userData l s) ≡ userOctets l s)
+  pub accepted-data : fault t s ≡ 0 → (userData (t .settings) s ≡ drop (6 + t .settings .secondary) s) × (length (userData (t .settings) s) ≡ userOctets (t .settings) s)
   unfolding userData content size header
   accepted-data e =
       let a = accepted e in
       let all : content s ≡ drop 6 s = simp (eq-eqb _ _ (a .read), eq-eqb _ _ (a .kind)) (take-all (spaceSize s - 6) (drop 6 s) (omega (arith, length-drop 6 s, a .whole))) in
-      let data′ : userData l s ≡ drop (6 + l .secondary) s = ap (drop (l .secondary)) all ∙ drop-drop (l .secondary) 6 s in
-      (data′, ap length data′ ∙ length-drop (6 + l .secondary) s ∙ omega (arith, a .whole, a .long))
+      let data′ : userData (t .settings) s ≡ drop (6 + t .settings .secondary) s = ap (drop (t .settings .secondary)) all ∙ drop-drop (t .settings .secondary) 6 s in
+      (data′, ap length data′ ∙ length-drop (6 + t .settings .secondary) s ∙ omega (arith, a .whole, a .long))
 
   -- reading refuses by 1 to 7
-  pub fault-most : fault l s ≤ 17
+  pub fault-most : fault t s ≤ 17
   unfolding fault
   fault-most =
       let few : refusal s ≤ 7 = ⊎-elim (λ w. omega (arith, whole-gives w)) (λ k. omega (arith, gives (k .1), numbered (k .1))) (verdict s) in
       most (not (eqb (refusal s) 0)) (omega arith) (most (ltb (size s) (length s)) (omega arith) (most (isEncapsulation s) (omega arith)
-      (most (eqb (packetType s) 1) (omega arith) (most (not (eqb (apid s) (l .apid))) (omega arith)
-      (most (misflags (secondary s) (l .secondary)) (omega arith) (most (ltb (dataOctets s) (l .secondary)) (omega arith) (omega arith)))))))
+      (most (eqb (packetType s) 1) (omega arith) (most (not (eqb (apid s) (t .settings .apid))) (omega arith)
+      (most (misflags (secondary s) (t .settings .secondary)) (omega arith) (most (ltb (dataOctets s) (t .settings .secondary)) (omega arith) (omega arith)))))))
     where
       most : (b : Bool) {k rest : ℕ} → k ≤ 17 → rest ≤ 17 → cond b k rest ≤ 17
       most true h g = h

@@ -20,10 +20,10 @@ use Rattle.packet.specs.declared.Packet.the-variants.{Space, Encapsulation, Ref
 use Rattle.packet.proofs.Packet.{the-type}
 use Rattle.reading.proofs.Exactly.{exactly-whole}
 use Rattle.reading.proofs.Answers.{Says, says, size-told}
-use Rattle.lane.specs.declared.Settings.{Settings}
 use Rattle.lane.specs.declared.Lane.{Lane}
+use Rattle.grouping.specs.declared.Terms.{Terms}
 use Rattle.grouping.specs.declared.Plan.{Plan}
-use Rattle.grouping.specs.Packets.{misflags, fault}
+use Rattle.grouping.specs.Packets.{misflags, termsOf, fault}
 use Rattle.grouping.specs.Faults.{otherRefusal, spaceFault}
 use Rattle.grouping.specs.Plans.{refusing, packetPlan, acceptedPlan}
 
@@ -43,14 +43,14 @@ some-fault false false true d e = omega arith
 some-fault false false false true e = omega arith
 some-fault false false false false e = omega arith
 
-pub long-enough : (l : Settings) (k n t x a d : ℕ) → k ≡ spaceFault l n t x a d → k ≡ 0 → l .secondary ≤ d
+pub long-enough : (terms : Terms) (k n t x a d : ℕ) → k ≡ spaceFault terms n t x a d → k ≡ 0 → terms .settings .secondary ≤ d
 unfolding spaceFault
-long-enough l k n t x a d e z =
-    either (ltb d (l .secondary)) (λ b. absurd (some-fault (ltb (spaceHeader + d) n) (eqb t 1) (not (eqb a (l .apid))) (misflags x (l .secondary)) (simp b at (sym e ∙ z)))) (ltb-false d (l .secondary))
+long-enough terms k n t x a d e z =
+    either (ltb d (terms .settings .secondary)) (λ b. absurd (some-fault (ltb (spaceHeader + d) n) (eqb t 1) (not (eqb a (terms .settings .apid))) (misflags x (terms .settings .secondary)) (simp b at (sym e ∙ z)))) (ltb-false d (terms .settings .secondary))
 
-module _ (l : Settings) (s : List ℕ) where
+module _ (terms : Terms) (s : List ℕ) where
   -- what is no Space Packet is refused
-  other : (p : Packet) → OneOf (1 ∷ 2 ∷ []) (tagOf the-type p) → Says p s → (otherRefusal p (length s) ≡ fault l s) × (0 < fault l s)
+  other : (p : Packet) → OneOf (1 ∷ 2 ∷ []) (tagOf the-type p) → Says p s → (otherRefusal p (length s) ≡ fault terms s) × (0 < fault terms s)
   unfolding otherRefusal fault
   other (Space t x a f c n) k w = absurd (⊎-elim (λ e. omega arith) (λ e. omega arith) k)
   other (Encapsulation i u x h n) k w =
@@ -61,7 +61,7 @@ module _ (l : Settings) (s : List ℕ) where
   other (Refused m) k w = rw (w .0) (simp (ne-eqb m 0 (λ e. omega (arith, w .1))) (refl, w .1))
 
   -- a Space Packet is refused by its fields
-  of-space : (t x a f c n : ℕ) → Says (Space t x a f c n) s → spaceFault l (length s) t x a n ≡ fault l s
+  of-space : (t x a f c n : ℕ) → Says (Space t x a f c n) s → spaceFault terms (length s) t x a n ≡ fault terms s
   unfolding spaceFault fault
   of-space t x a f c n w =
       let z = size-told (Space t x a f c n) s w (w .0) .1 in
@@ -74,20 +74,20 @@ module _ (l : Lane) (s : List ℕ) (room : ℕ) where
   not-open r h e = simp h e
 
   module _ (open′ : not (l .opened) ≡ false) (p : Packet) (read : told p ≡ reading s) where
-    refused : (k : ℕ) → k ≡ fault (l .settings) s → 0 < k → (r : Plan) → r ≡ refusing k → r ≡ packetPlan l s room
+    refused : (k : ℕ) → k ≡ fault (termsOf l) s → 0 < k → (r : Plan) → r ≡ refusing k → r ≡ packetPlan l s room
     unfolding packetPlan
     refused k e h r f = simp (open′, ← e, ne-eqb k 0 (λ z. omega arith)) f
 
     pub not-space : OneOf (1 ∷ 2 ∷ []) (tagOf the-type p) → (k : ℕ) → k ≡ otherRefusal p (length s) → (r : Plan) → r ≡ refusing k → r ≡ packetPlan l s room
-    not-space keys k e r f = let o = other (l .settings) s p keys (says p s read) in refused k (e ∙ o .0) (rw (e ∙ o .0) (o .1)) r f
+    not-space keys k e r f = let o = other (termsOf l) s p keys (says p s read) in refused k (e ∙ o .0) (rw (e ∙ o .0) (o .1)) r f
 
-    module _ (t x a f c n : ℕ) (is : p ≡ Space t x a f c n) (k : ℕ) (fk : k ≡ spaceFault (l .settings) (length s) t x a n) where
+    module _ (t x a f c n : ℕ) (is : p ≡ Space t x a f c n) (k : ℕ) (fk : k ≡ spaceFault (termsOf l) (length s) t x a n) where
       said : Says (Space t x a f c n) s
       said = says (Space t x a f c n) s (ap told (sym is) ∙ read)
 
       pub faulty : (k ≡ 0 → ⊥) → (r : Plan) → r ≡ refusing k → r ≡ packetPlan l s room
-      faulty h r g = refused k (fk ∙ of-space (l .settings) s t x a f c n said) (omega (arith, h)) r g
+      faulty h r g = refused k (fk ∙ of-space (termsOf l) s t x a f c n said) (omega (arith, h)) r g
 
       pub fine : k ≡ 0 → (r : Plan) → r ≡ acceptedPlan l f c (n - l .settings .secondary) room → r ≡ packetPlan l s room
       unfolding packetPlan
-      fine z r g = simp (open′, eq-eqb (fault (l .settings) s) 0 (sym (fk ∙ of-space (l .settings) s t x a f c n said) ∙ z), ← said .5, ← said .6, ← said .7) g
+      fine z r g = simp (open′, eq-eqb (fault (termsOf l) s) 0 (sym (fk ∙ of-space (termsOf l) s t x a f c n said) ∙ z), ← said .5, ← said .6, ← said .7) g

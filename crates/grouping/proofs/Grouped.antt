@@ -36,7 +36,7 @@ breaks-anew m f (inr e) = rw (eq-eqb f 3 e) (or-last (ltb 0 m || eqb f 1))
 module _ (l : Lane) (f c n room m : ℕ) (em : m ≡ missingBefore l c) (b : Bool) (eb : b ≡ breaks m f)
     (k : ℕ) (ek : k ≡ cond (l .grouped && not b) (l .octets) 0 + n) where
   abbrev taken : Added
-  taken = record { missing = m; broke = l .grouped && b; count = c }
+  taken = record { missing = m; «given_up» = l .grouped && b; count = c }
 
   abbrev on : Bool
   on = l .grouped && not b

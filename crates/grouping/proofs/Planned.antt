@@ -10,7 +10,8 @@ use native.Mathlib.Omega.{arith}
 use borrow.Author.Tests.{eqb-true, eqb-false, ltb-false, leb-false, not-false}
 use lib.Dec.{eqb, ltb, leb}
 use Rattle.octets.proofs.Order.{both}
-use Rattle.packet.specs.Space.{flags, count}
+use Rattle.packet.specs.Space.{flags, counts, count}
+use Rattle.record.specs.Record.{mostPackets, mostBetween}
 use Rattle.marks.specs.Blocks.{blocksFor}
 use Rattle.lane.specs.declared.Lane.{Lane}
 use Rattle.grouping.specs.declared.Added.{Added}
@@ -19,7 +20,7 @@ use Rattle.grouping.specs.declared.Plan.{Plan}
 use Rattle.grouping.specs.declared.Plan.the-variants.{Sure, Ask}
 use Rattle.octets.specs.Octets.{one}
 use Rattle.lane.specs.Lane.{fine}
-use Rattle.grouping.specs.Packets.{fault, userOctets}
+use Rattle.grouping.specs.Packets.{termsOf, fault, userOctets}
 use Rattle.grouping.specs.Grouping.{missingBefore, breaks, givesUp, goesOn, addedFrom}
 use Rattle.grouping.specs.Grouping as rule
 use Rattle.grouping.specs.Plans.{holdPlan, unitPlan, groupingPlan, acceptedPlan, packetPlan}
@@ -39,23 +40,23 @@ ToHold l s = (flags s ≡ 1) ⊎ ((flags s ≡ 0) × (goesOn l (flags s) (count 
 pub data Planned (l : Lane) (s : List ℕ) (room : ℕ) : Plan → Type 0 where
   refuses : (k : ℕ) → k ≤ 20 → (k ≡ 19 → ToHold l s) → Planned l s room (Sure (Refuse k))
   repeats : Planned l s room (Sure Repeat)
-  strays : (a : Added) → l .opened ≡ true → fault (l .settings) s ≡ 0 → fine (laneAfter l (Stray a)) ≡ true → Planned l s room (Sure (Stray a))
-  ends : (a : Added) (on : Bool) (n : ℕ) → l .opened ≡ true → fault (l .settings) s ≡ 0 → fine (laneAfter l (Unit a on n)) ≡ true
+  strays : (a : Added) → l .opened ≡ true → fault (termsOf l) s ≡ 0 → fine (laneAfter l (Stray a)) ≡ true → Planned l s room (Sure (Stray a))
+  ends : (a : Added) (on : Bool) (n : ℕ) → l .opened ≡ true → fault (termsOf l) s ≡ 0 → fine (laneAfter l (Unit a on n)) ≡ true
       → n ≡ cond on (l .octets) 0 + userOctets (l .settings) s → n ≤ room → Planned l s room (Sure (Unit a on n))
-  holds : (a : Added) (on : Bool) (n : ℕ) → l .opened ≡ true → fault (l .settings) s ≡ 0 → fine (laneAfter l (Hold a on n)) ≡ true
+  holds : (a : Added) (on : Bool) (n : ℕ) → l .opened ≡ true → fault (termsOf l) s ≡ 0 → fine (laneAfter l (Hold a on n)) ≡ true
       → n ≡ cond on (l .octets) 0 + userOctets (l .settings) s → (on ≡ true → l .grouped ≡ true) → ToHold l s
       → Planned l s room (Ask n 19 (Hold a on n))
 
 -- ---- the lane after a packet is counted
 -- a packet that is no repeat misses at most 16,382
-missing-most : (l : Lane) (c : ℕ) → rule.repeats l c ≡ false → c < 16384 → l .last ≤ 16383 → l .missing ≤ 16382 * (l .packets - 1)
-    → l .missing + missingBefore l c ≤ 16382 * l .packets
+missing-most : (l : Lane) (c : ℕ) → rule.repeats l c ≡ false → c < counts → l .last < counts → l .missing ≤ mostBetween * (l .packets - 1)
+    → l .missing + missingBefore l c ≤ mostBetween * l .packets
 unfolding rule.repeats missingBefore
 missing-most l c new small last h =
-    of-either (λ (m : ℕ). l .missing + m ≤ 16382 * l .packets) (eqb (l .packets) 0) (λ e. omega (arith, eqb-true (l .packets) 0 e))
+    of-either (λ (m : ℕ). l .missing + m ≤ mostBetween * l .packets) (eqb (l .packets) 0) (λ e. omega (arith, eqb-true (l .packets) 0 e))
     (λ e.
     let other : eqb c (l .last) ≡ false = simp e at new in
-    let few : (c + 65536 - (l .last + 1)) % 16384 ≤ 16382 = omega (arith, eqb-false c (l .last) other) in
+    let few : (c + 65536 - (l .last + 1)) % counts ≤ mostBetween = omega (arith, eqb-false c (l .last) other) in
     omega (arith, eqb-false (l .packets) 0 e))
 
 given-up-most : (a b : Bool) → one (a && b) ≤ one a
@@ -64,7 +65,7 @@ given-up-most true true = omega arith
 given-up-most true false = omega arith
 given-up-most false b = omega arith
 
-module _ (l : Lane) (f c : ℕ) (is : Fine l) (on : l .opened ≡ true) (new : rule.repeats l c ≡ false) (few : l .packets < 262144) (small : c < 16384) where
+module _ (l : Lane) (f c : ℕ) (is : Fine l) (on : l .opened ≡ true) (new : rule.repeats l c ≡ false) (few : l .packets < mostPackets) (small : c < counts) where
   counted-fine : (units : ℕ) (grouped : Bool) (n : ℕ) → units + one grouped ≤ 1 → blocksFor n ≤ l .settings .cap → (grouped ≡ false → n ≡ 0)
       → fine (counted l (addedFrom l f c) units grouped n) ≡ true
   unfolding givesUp
@@ -80,7 +81,7 @@ module _ (l : Lane) (f c : ℕ) (is : Fine l) (on : l .opened ≡ true) (new : r
           apid = t .apid;
           packets = omega arith;
           units = omega (arith, t .units, given-up-most (l .grouped) (breaks (missingBefore l c) f));
-          missing = let m : l .missing + missingBefore l c ≤ 16382 * l .packets = missing-most l c new small (is .last) (t .missing) in omega arith;
+          missing = let m : l .missing + missingBefore l c ≤ mostBetween * l .packets = missing-most l c new small (is .last) (t .missing) in omega arith;
         };
       })
 
@@ -105,7 +106,7 @@ module _ (l : Lane) (s : List ℕ) (room : ℕ) (is : Fine l) where
   unfolding goesOn
   on-grouped e = both (l .grouped) (not (breaks (missingBefore l (count s)) (flags s))) e .0
 
-  module _ (open′ : l .opened ≡ true) (good : fault (l .settings) s ≡ 0) (new : rule.repeats l (count s) ≡ false) (few : l .packets < 262144) where
+  module _ (open′ : l .opened ≡ true) (good : fault (termsOf l) s ≡ 0) (new : rule.repeats l (count s) ≡ false) (few : l .packets < mostPackets) where
     after : (units : ℕ) (grouped : Bool) (k : ℕ) → units + one grouped ≤ 1 → blocksFor k ≤ l .settings .cap → (grouped ≡ false → k ≡ 0)
         → fine (counted l added units grouped k) ≡ true
     after = counted-fine l (flags s) (count s) is open′ new few (omega arith)
@@ -142,7 +143,7 @@ planned l s room h =
     let is : Fine l = is-fine l h in
     let P : Plan → Type 0 = Planned l s room in
     of-either P (not (l .opened)) (λ e. refused l s room is 11 (omega arith))
-    (λ e. of-either P (not (eqb (fault (l .settings) s) 0)) (λ f. refused l s room is (fault (l .settings) s) (omega (arith, fault-most (l .settings) s)))
+    (λ e. of-either P (not (eqb (fault (termsOf l) s) 0)) (λ f. refused l s room is (fault (termsOf l) s) (omega (arith, fault-most (termsOf l) s)))
     (λ f. of-either P (rule.repeats l (count s)) (λ g. repeats)
-    (λ g. of-either P (leb 262144 (l .packets)) (λ k. refused l s room is 18 (omega arith))
+    (λ g. of-either P (leb mostPackets (l .packets)) (λ k. refused l s room is 18 (omega arith))
     (λ k. grouping l s room is (not-false _ e) (eqb-true _ _ (not-false _ f)) g (leb-false _ _ k)))))

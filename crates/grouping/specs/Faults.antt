@@ -8,7 +8,7 @@ use Rattle.octets.specs.Order.{_gives_, first}
 use Rattle.packet.specs.Space.{spaceHeader}
 use Rattle.packet.specs.Told.{numberOf, sizeOf}
 use Rattle.packet.specs.declared.Packet.{Packet}
-use Rattle.lane.specs.declared.Settings.{Settings}
+use Rattle.grouping.specs.declared.Terms.{Terms}
 use Rattle.grouping.specs.Packets.{misflags}
 
 -- of what is no Space Packet, read from n octets
@@ -16,12 +16,12 @@ unfoldable pub otherRefusal : Packet → ℕ → ℕ
 otherRefusal p n = first 13 ((not (eqb (numberOf p) 0) gives numberOf p) ∷ (ltb (sizeOf p) n gives 12) ∷ [])
 
 -- of a Space Packet's fields, read from n octets: type t, flag x, APID a, d octets in the data field
-unfoldable pub spaceFault : Settings → ℕ → ℕ → ℕ → ℕ → ℕ → ℕ
-spaceFault l n t x a d =
+unfoldable pub spaceFault : Terms → ℕ → ℕ → ℕ → ℕ → ℕ → ℕ
+spaceFault terms n t x a d =
     first 0
     ((ltb (spaceHeader + d) n gives 12)
     ∷ (eqb t 1 gives 14)
-    ∷ (not (eqb a (l .apid)) gives 15)
-    ∷ (misflags x (l .secondary) gives 16)
-    ∷ (ltb d (l .secondary) gives 17)
+    ∷ (not (eqb a (terms .settings .apid)) gives 15)
+    ∷ (misflags x (terms .settings .secondary) gives 16)
+    ∷ (ltb d (terms .settings .secondary) gives 17)
     ∷ [])

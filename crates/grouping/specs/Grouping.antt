@@ -2,6 +2,7 @@
 use Prim.Native.Nat.{ℕ, _+_, _-_, _%_}
 use mathlib.Core.Bool.{Bool, cond, not, _&&_, _||_}
 use lib.Dec.{eqb, ltb}
+use Rattle.packet.specs.Space.{counts}
 use Rattle.lane.specs.declared.Lane.{Lane}
 use Rattle.grouping.specs.declared.Added.{Added}
 
@@ -11,7 +12,7 @@ repeats l c = not (eqb (l .packets) 0) && eqb c (l .last)
 
 -- missing = (count - last - 1) mod 16,384, or 0 for the first packet; 65,536 is a multiple of 16,384
 unfoldable pub missingBefore : Lane → ℕ → ℕ
-missingBefore l c = cond (eqb (l .packets) 0) 0 ((c + 65536 - (l .last + 1)) % 16384)
+missingBefore l c = cond (eqb (l .packets) 0) 0 ((c + 65536 - (l .last + 1)) % counts)
 
 -- An open group is given up if missing is above 0, or if the flags are 1 or 3
 unfoldable pub breaks : ℕ → ℕ → Bool
@@ -26,4 +27,4 @@ goesOn l f c = l .grouped && not (breaks (missingBefore l c) f)
 
 -- what the packet adds to the tallies
 abbrev pub addedFrom : Lane → ℕ → ℕ → Added
-addedFrom l f c = record { missing = missingBefore l c; broke = givesUp l f c; count = c }
+addedFrom l f c = record { missing = missingBefore l c; «given_up» = givesUp l f c; count = c }

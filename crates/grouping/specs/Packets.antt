@@ -8,28 +8,34 @@ use Rattle.octets.specs.Order.{Test, _gives_, first}
 use Rattle.packet.specs.Space.{packetType, secondary, apid, dataOctets}
 use Rattle.reading.specs.Reading.{isEncapsulation, size, refusal, content}
 use Rattle.lane.specs.declared.Settings.{Settings}
+use Rattle.lane.specs.declared.Lane.{Lane}
+use Rattle.grouping.specs.declared.Terms.{Terms}
 
 -- flag set and the lane's secondary length is 0, or clear and it isn't: of flag x and secondary length n
 abbrev pub misflags : ℕ → ℕ → Bool
 misflags x n = (eqb x 1 && eqb n 0) || (eqb x 0 && not (eqb n 0))
 
+-- what decides, with its octets, whether a packet is at fault
+abbrev pub termsOf : Lane → Terms
+termsOf l = record { settings = l .settings }
+
 -- 12, 13, 14, 15, 16, 17
-abbrev pub laneTests : Settings → List ℕ → List (Test ℕ)
-laneTests l s =
+abbrev pub laneTests : Terms → List ℕ → List (Test ℕ)
+laneTests t s =
     (ltb (size s) (length s) gives 12)
     ∷ (isEncapsulation s gives 13)
     ∷ (eqb (packetType s) 1 gives 14)
-    ∷ (not (eqb (apid s) (l .apid)) gives 15)
-    ∷ (misflags (secondary s) (l .secondary) gives 16)
-    ∷ (ltb (dataOctets s) (l .secondary) gives 17)
+    ∷ (not (eqb (apid s) (t .settings .apid)) gives 15)
+    ∷ (misflags (secondary s) (t .settings .secondary) gives 16)
+    ∷ (ltb (dataOctets s) (t .settings .secondary) gives 17)
     ∷ []
 
 -- reading, then these
-abbrev pub faultTests : Settings → List ℕ → List (Test ℕ)
-faultTests l s = (not (eqb (refusal s) 0) gives refusal s) ∷ laneTests l s
+abbrev pub faultTests : Terms → List ℕ → List (Test ℕ)
+faultTests t s = (not (eqb (refusal s) 0) gives refusal s) ∷ laneTests t s
 
-unfoldable pub fault : Settings → List ℕ → ℕ
-fault l s = first 0 (faultTests l s)
+unfoldable pub fault : Terms → List ℕ → ℕ
+fault t s = first 0 (faultTests t s)
 
 -- User data is the data field without the secondary octets
 unfoldable pub userData : Settings → List ℕ → List ℕ

@@ -5,6 +5,7 @@ use mathlib.Core.List.{List, [], _∷_}
 use lib.Dec.{eqb, ltb, leb}
 use Rattle.octets.specs.Order.{_gives_, first}
 use Rattle.packet.specs.Space.{flags, count}
+use Rattle.record.specs.Record.{mostPackets}
 use Rattle.marks.specs.Blocks.{blocksFor}
 use Rattle.lane.specs.declared.Settings.{Settings}
 use Rattle.lane.specs.declared.Lane.{Lane}
@@ -12,7 +13,7 @@ use Rattle.grouping.specs.declared.Added.{Added}
 use Rattle.grouping.specs.declared.Step.the-variants.{Refuse, Repeat, Stray, Hold, Unit}
 use Rattle.grouping.specs.declared.Plan.{Plan}
 use Rattle.grouping.specs.declared.Plan.the-variants.{Sure, Ask}
-use Rattle.grouping.specs.Packets.{fault, userOctets}
+use Rattle.grouping.specs.Packets.{termsOf, fault, userOctets}
 use Rattle.grouping.specs.Grouping.{repeats, goesOn, addedFrom}
 
 abbrev pub refusing : ℕ → Plan
@@ -46,7 +47,7 @@ unfoldable pub acceptedPlan : Lane → ℕ → ℕ → ℕ → ℕ → Plan
 acceptedPlan l f c n room =
     first (groupingPlan l f c n room)
     ((repeats l c gives Sure Repeat)
-    ∷ (leb 262144 (l .packets) gives refusing 18)
+    ∷ (leb mostPackets (l .packets) gives refusing 18)
     ∷ [])
 
 -- Packet to a lane: 11, reading, 12, 13, 14, 15, 16, 17, the repeat test, 18, 19, 20
@@ -54,5 +55,5 @@ unfoldable pub packetPlan : Lane → List ℕ → ℕ → Plan
 packetPlan l s room =
     first (acceptedPlan l (flags s) (count s) (userOctets (l .settings) s) room)
     ((not (l .opened) gives refusing 11)
-    ∷ (not (eqb (fault (l .settings) s) 0) gives refusing (fault (l .settings) s))
+    ∷ (not (eqb (fault (termsOf l) s) 0) gives refusing (fault (termsOf l) s))
     ∷ [])

@@ -11,7 +11,7 @@ use Rattle.octets.specs.Octets.{one}
 -- then the group
 abbrev pub counted : Lane → Added → ℕ → Bool → ℕ → Lane
 counted l a units grouped octets =
-    record { opened = l .opened; settings = l .settings; units = l .units + units; packets = l .packets + 1; missing = l .missing + a .missing; broken = l .broken + one (a .broke); last = a .count; grouped = grouped; octets = octets }
+    record { opened = l .opened; settings = l .settings; units = l .units + units; packets = l .packets + 1; missing = l .missing + a .missing; broken = l .broken + one (a .«given_up»); last = a .count; grouped = grouped; octets = octets }
 
 unfoldable pub laneAfter : Lane → Step → Lane
 laneAfter l (Refuse k) = l

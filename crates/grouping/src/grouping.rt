@@ -11,9 +11,8 @@ use crate::refuse;
 use lane::Lane;
 use lane::Settings;
 use marks::blocks_for;
-
-// The most packets that a lane takes.
-const MOST_PACKETS: u32 = 262144;
+use packet::COUNTS;
+use record::MOST_PACKETS;
 
 fn is_repeat(l: Lane, count: u16) -> bool
     ensures { λ r. ⌜ r ≡ repeats l count ⌝ }
@@ -28,7 +27,7 @@ fn missing_before(l: Lane, count: u16) -> u16
     if l.packets == 0 {
         0
     } else {
-        std::num::wrapping_sub_u16(std::num::wrapping_sub_u16(count, l.last), 1) % 16384
+        std::num::wrapping_sub_u16(std::num::wrapping_sub_u16(count, l.last), 1) % COUNTS
     }
 }
 
@@ -54,7 +53,7 @@ fn plan_hold(s: Settings, added: Added, joins: bool, n: usize) -> Plan
         return refuse(19);
     }
     Plan::Ask {
-        octets: n,
+        octets: n as u16,
         refusal: 19,
         step: Step::Hold {
             added,
@@ -88,7 +87,7 @@ fn plan_grouping(l: Lane, flags: u8, count: u16, n: usize, room: usize) -> Plan
     let joins = l.grouped & !breaks;
     let added = Added {
         missing,
-        broke: l.grouped & breaks,
+        given_up: l.grouped & breaks,
         count,
     };
     let octets = joined_octets(joins, l.octets, n);

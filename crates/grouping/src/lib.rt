@@ -6,15 +6,21 @@ ghost use mathlib.Core.Path.{_≡_};
 ghost use Rattle.grouping.specs.Plans.{refusing, packetPlan};
 use grouping::plan_accepted;
 use lane::Lane;
+use lane::Settings;
 use packet::Packet;
 use packets::fault_of;
 use packets::other_refusal;
 use reading::read_packet;
 
+// What decides, with its octets, whether a packet is at fault: the settings of the lane that it comes to.
+pub struct Terms {
+    pub settings: Settings,
+}
+
 // What an accepted packet adds to the tallies: packets missing before it, whether an open group is given up, and its count.
 pub struct Added {
     pub missing: u16,
-    pub broke: bool,
+    pub given_up: bool,
     pub count: u16,
 }
 
@@ -40,7 +46,7 @@ pub enum Step {
 pub enum Plan {
     Sure(Step),
     Ask {
-        octets: usize,
+        octets: u16,
         refusal: u8,
         step: Step,
     },
@@ -61,7 +67,7 @@ pub fn plan_packet(l: Lane, octets: &[u8], room: usize) -> Plan
     }
     let p = read_packet(octets);
     let Packet::Space {
-        packet_type: kind,
+        packet_type,
         secondary,
         apid,
         flags,
@@ -71,7 +77,9 @@ pub fn plan_packet(l: Lane, octets: &[u8], room: usize) -> Plan
     else {
         return refuse(other_refusal(p, octets.len()));
     };
-    let number = fault_of(l.settings, octets.len(), kind, secondary, apid, size);
+    let settings = l.settings;
+    let terms = Terms { settings };
+    let number = fault_of(terms, octets.len(), packet_type, secondary, apid, size);
     if number != 0 {
         return refuse(number);
     }

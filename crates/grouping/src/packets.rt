@@ -2,7 +2,7 @@
 ghost use mathlib.Core.Path.{_≡_};
 ghost use Rattle.grouping.specs.Packets.{misflags};
 ghost use Rattle.grouping.specs.Faults.{otherRefusal, spaceFault};
-use lane::Settings;
+use crate::Terms;
 use packet::Packet;
 use packet::SPACE_HEADER;
 use packet::number_of;
@@ -28,28 +28,28 @@ fn is_misflagged(flag: u8, length: u8) -> bool
 
 // The refusal of a Space Packet that was read from so many octets, or 0.
 pub(crate) fn fault_of(
-    l: Settings,
+    terms: Terms,
     octets: usize,
-    kind: u8,
+    packet_type: u8,
     secondary: u8,
     apid: u16,
     size: u32,
 ) -> u8
-    ensures { λ r. ⌜ r ≡ spaceFault l octets kind secondary apid size ⌝ }
+    ensures { λ r. ⌜ r ≡ spaceFault terms octets «packet_type» secondary apid size ⌝ }
 {
     if octets > SPACE_HEADER + size as usize {
         return 12;
     }
-    if kind == 1 {
+    if packet_type == 1 {
         return 14;
     }
-    if apid != l.apid {
+    if apid != terms.settings.apid {
         return 15;
     }
-    if is_misflagged(secondary, l.secondary) {
+    if is_misflagged(secondary, terms.settings.secondary) {
         return 16;
     }
-    if size < l.secondary as u32 {
+    if size < terms.settings.secondary as u32 {
         return 17;
     }
     0

@@ -5,7 +5,7 @@ use mathlib.Core.Bool.{Bool, true, false, not}
 use mathlib.Core.List.{List, [], _∷_}
 use borrow.Author.Tests.{ne-eqb}
 use native.Mathlib.Omega.{arith}
-use lib.ListN.{length}
+use lib.ListN.{length, set}
 use Rattle.octets.specs.Output.{leading, outputAfter}
 use Rattle.octets.proofs.Order.{leads-first, told-number}
 use Rattle.record.specs.Record.{recordSize}
@@ -16,11 +16,11 @@ use Rattle.record.specs.declared.RecordWritten.{RecordWritten}
 use Rattle.record.specs.declared.RecordWritten.the-variants as written
 use Rattle.lane.specs.declared.Lane.{Lane}
 use Rattle.lane.specs.Lane.{closed, creditOf, talliesPossible}
-use Rattle.intake.specs.declared.State.{State}
+use Rattle.state.specs.declared.State.{State}
 use Rattle.intake.specs.declared.Changed.{Changed}
-use Rattle.intake.specs.State.{laneAt, unsound}
+use Rattle.state.specs.State.{laneAt, unsound}
 use Rattle.intake.specs.Calls.{closingRefusal}
-use Rattle.intake.specs.After.{refusedChange, releasedFrom, withLane, closing, closingOut}
+use Rattle.intake.specs.After.{refusedChange, releasedFrom, closing, closingOut}
 
 abbrev pub Closes : State → ℕ → ℕ → List ℕ → Changed → List ℕ → Type 0
 Closes s i n out r after = (r ≡ closing s i n (length out)) × (after ≡ closingOut s i n out)
@@ -65,8 +65,8 @@ module _ (s : State) (i n : ℕ) (out : List ℕ) (u : Bool) (eu : u ≡ unsound
             (er ∙ rw (← same, is) (simp (ne-eqb k 0 (λ y. omega (arith, some)))), out-after after ea)
 
         pub closes : (m : ℕ) → w ≡ written.Octets m → (after : List ℕ) → after ≡ recordAfter credit out → (marks : List ℕ) → marks ≡ releasedFrom (s .marks) i l
-            → (t : State) → t ≡ withLane s i closed marks → Closes s i n out (record { refusal = 0; state = t }) after
+            → (ls : List Lane) → ls ≡ set (s .lanes) i closed → Closes s i n out (record { refusal = 0; state = record { lanes = ls; marks = marks } }) after
         unfolding closing
-        closes m e after ea marks em t et =
+        closes m e after ea marks em ls els =
             let done : number ≡ 0 = sym (ap leading (ap toldWritten (sym e) ∙ ew)) in
-            (rw (← same, done, et, em, el), out-after after ea)
+            (rw (← same, done, els, em, el), out-after after ea)

@@ -6,8 +6,7 @@ use mathlib.Core.Path.{_≡_, refl, sym, ap, _∙_}
 use mathlib.Core.Bool.{Bool, true, false}
 use mathlib.Core.List.{List}
 use native.Mathlib.Omega.{arith}
-use lib.Dec.{leb}
-use lib.ListN.{length, drop, List·getD-eq-default}
+use lib.ListN.{length, set, drop, List·getD-eq-default}
 use lib.Seq.{set-out}
 use Rattle.octets.proofs.Order.{either}
 use Rattle.lane.specs.declared.Lane.{Lane}
@@ -15,22 +14,22 @@ use Rattle.lane.proofs.Fine.{held-most}
 use Rattle.grouping.specs.declared.Plan.{Plan}
 use Rattle.grouping.specs.declared.Step.{Step}
 use Rattle.grouping.specs.declared.Step.the-variants as step
-use Rattle.lane.specs.Lane.{closed, need, holding, fine}
+use Rattle.lane.specs.Lane.{closed, holding, fine}
 use Rattle.grouping.specs.Plans.{packetPlan}
 use Rattle.grouping.specs.Steps.{laneAfter}
-use Rattle.grouping.specs.Packets.{fault, userOctets}
+use Rattle.grouping.specs.Packets.{termsOf, fault, userOctets}
 use Rattle.grouping.proofs.Accepted.{accepted-data}
 use Rattle.grouping.proofs.Planned.{of-either, Planned, planned}
 use Rattle.grouping.proofs.Planned as plan
-use Rattle.intake.specs.declared.State.{State}
+use Rattle.state.specs.declared.State.{State}
 use Rattle.intake.specs.declared.Answer.{Answer}
 use Rattle.intake.specs.declared.Answered.{Answered}
-use Rattle.intake.specs.State.{laneAt, others, unsound}
+use Rattle.state.specs.State.{laneAt, within, unsound}
 use Rattle.intake.specs.Calls.{settle, packetStep}
 use Rattle.intake.specs.After.{withLane, userOf, poolAfter, outAfter, answerOf, taking, takingPool, takingOut}
 use Rattle.intake.specs.Told.{told, telling}
 use Rattle.intake.specs.Ready.{Ready}
-use Rattle.intake.proofs.Soundness.{then-sound, lane-fine, opened-small}
+use Rattle.state.proofs.Soundness.{then-sound, lane-fine, opened-small}
 use Rattle.intake.proofs.Taken.{Leaves}
 
 -- what comes after the header and the secondary octets
@@ -43,7 +42,7 @@ module _ (s : State) (i : ℕ) (p : List ℕ) (octets room : ℕ) where
   unfolding packetStep
   step-24 h = simp h
 
-  is-step : unsound s octets ≡ false → settle (laneAt s i) (others (s .lanes) i) (packetPlan (laneAt s i) p room) ≡ packetStep s i p octets room
+  is-step : unsound s octets ≡ false → settle (s .lanes) i (packetPlan (laneAt s i) p room) ≡ packetStep s i p octets room
   unfolding packetStep
   is-step passed = simp passed
 
@@ -52,7 +51,7 @@ module _ (s : State) (i : ℕ) (p : List ℕ) (octets room : ℕ) where
     pub refused-24 : b ≡ true → step.Refuse 24 ≡ packetStep s i p octets room
     refused-24 h = sym (step-24 (sym eb ∙ h))
 
-    pub settled-step : b ≡ false → (pl : Plan) → pl ≡ packetPlan l p room → (d : Step) → d ≡ settle l (others (s .lanes) i) pl → d ≡ packetStep s i p octets room
+    pub settled-step : b ≡ false → (pl : Plan) → pl ≡ packetPlan l p room → (d : Step) → d ≡ settle (s .lanes) i pl → d ≡ packetStep s i p octets room
     settled-step h pl ep d ed = ed ∙ rw (ep, el) (is-step (sym eb ∙ h))
 
 -- ---- what is carried out
@@ -65,11 +64,11 @@ module _ (s : State) (eight : length (s .lanes) ≡ 8) (i : ℕ) (p : List ℕ) 
 
   module _ (passed : unsound s octets ≡ false) where
     -- an accepted packet's user data is that part, of the plan's octets
-    part-is : fault (own .settings) p ≡ 0 → userOf s i p ≡ userPart own p
-    part-is f = accepted-data (own .settings) p f .0
+    part-is : fault (termsOf own) p ≡ 0 → userOf s i p ≡ userPart own p
+    part-is f = accepted-data (termsOf own) p f .0
 
-    part-octets : fault (own .settings) p ≡ 0 → length (userPart own p) ≡ userOctets (own .settings) p
-    part-octets f = ap length (sym (part-is f)) ∙ accepted-data (own .settings) p f .1
+    part-octets : fault (termsOf own) p ≡ 0 → length (userPart own p) ≡ userOctets (own .settings) p
+    part-octets f = ap length (sym (part-is f)) ∙ accepted-data (termsOf own) p f .1
 
     good : fine own ≡ true
     good = lane-fine s (then-sound s octets passed .0) i
@@ -77,7 +76,7 @@ module _ (s : State) (eight : length (s .lanes) ≡ 8) (i : ℕ) (p : List ℕ) 
     small : own .opened ≡ true → i < 8
     small = opened-small (s .lanes) eight i
 
-    ready : {d : Plan} → Planned own p room d → Ready i own (settle own (others (s .lanes) i) d) (length (userPart own p)) octets room
+    ready : {d : Plan} → Planned own p room d → Ready i own (settle (s .lanes) i d) (length (userPart own p)) octets room
     unfolding settle laneAfter
     ready (plan.refuses n few h) = tt
     ready plan.repeats = tt
@@ -85,13 +84,13 @@ module _ (s : State) (eight : length (s .lanes) ≡ 8) (i : ℕ) (p : List ℕ) 
     ready (plan.ends a on n o f g e h) =
         ((small o, g), omega (arith, e, part-octets f), h, held-most own (good) .1)
     ready (plan.holds a on n o f g e h t) =
-        of-either (λ (d : Step). Ready i own d (length (userPart own p)) octets room) (leb (need (holding own n) + others (s .lanes) i) 64)
+        of-either (λ (d : Step). Ready i own d (length (userPart own p)) octets room) (within (set (s .lanes) i (holding own n)))
         (λ r. ((small o, g), omega (arith, e, part-octets f), held-most (laneAfter own (step.Hold a on n)) g .1, held-most own (good) .1, then-sound s octets passed .1))
         (λ r. tt)
 
     -- the same part of the pool and of the output is written with either
     same-pool : {d : Plan} (pool : List ℕ) → Planned own p room d
-        → poolAfter (s .marks) i own (settle own (others (s .lanes) i) d) (userPart own p) pool ≡ poolAfter (s .marks) i own (settle own (others (s .lanes) i) d) (userOf s i p) pool
+        → poolAfter (s .marks) i own (settle (s .lanes) i d) (userPart own p) pool ≡ poolAfter (s .marks) i own (settle (s .lanes) i d) (userOf s i p) pool
     unfolding settle poolAfter
     same-pool pool (plan.refuses n few h) = refl
     same-pool pool plan.repeats = refl
@@ -100,7 +99,7 @@ module _ (s : State) (eight : length (s .lanes) ≡ 8) (i : ℕ) (p : List ℕ) 
     same-pool pool (plan.holds a on n o f g e h t) = rw (part-is f)
 
     same-out : {d : Plan} (pool out : List ℕ) → Planned own p room d
-        → outAfter (s .marks) i own (settle own (others (s .lanes) i) d) (userPart own p) pool out ≡ outAfter (s .marks) i own (settle own (others (s .lanes) i) d) (userOf s i p) pool out
+        → outAfter (s .marks) i own (settle (s .lanes) i d) (userPart own p) pool out ≡ outAfter (s .marks) i own (settle (s .lanes) i d) (userOf s i p) pool out
     unfolding settle outAfter
     same-out pool out (plan.refuses n few h) = refl
     same-out pool out plan.repeats = refl
@@ -108,7 +107,7 @@ module _ (s : State) (eight : length (s .lanes) ≡ 8) (i : ℕ) (p : List ℕ) 
     same-out pool out (plan.ends a on n o f g e h) = rw (part-is f)
     same-out pool out (plan.holds a on n o f g e h t) =
         of-either (λ (d : Step). outAfter (s .marks) i own d (userPart own p) pool out ≡ outAfter (s .marks) i own d (userOf s i p) pool out)
-        (leb (need (holding own n) + others (s .lanes) i) 64) (λ r. refl) (λ r. refl)
+        (within (set (s .lanes) i (holding own n))) (λ r. refl) (λ r. refl)
 
   -- so of every step
   ready-any : Ready i own packet (length (userPart own p)) octets room

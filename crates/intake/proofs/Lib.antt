@@ -1,8 +1,6 @@
-pub mod Turns
 pub mod Settled
 pub mod Carried
 pub mod Taken
-pub mod Soundness
 pub mod Opened
 pub mod Given
 pub mod Closed

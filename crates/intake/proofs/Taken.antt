@@ -10,8 +10,8 @@ use Rattle.grouping.specs.declared.Step.{Step}
 use Rattle.grouping.specs.declared.Step.the-variants as step
 use Rattle.lane.specs.Lane.{closed}
 use Rattle.grouping.specs.Steps.{laneAfter}
-use Rattle.intake.specs.declared.State.{State}
-use Rattle.intake.specs.State.{laneAt}
+use Rattle.state.specs.declared.State.{State}
+use Rattle.state.specs.State.{laneAt}
 use Rattle.intake.specs.After.{withLane, marksAfter, poolAfter, outAfter}
 
 -- a lane put back into its place changes nothing

@@ -14,20 +14,15 @@ use Rattle.grouping.specs.declared.Step.the-variants as step
 use Rattle.lane.specs.Lane.{closed, held, creditOf}
 use Rattle.grouping.specs.Packets.{userData}
 use Rattle.grouping.specs.Steps.{laneAfter}
-use Rattle.intake.specs.declared.State.{State}
+use Rattle.state.specs.declared.State.{State}
 use Rattle.intake.specs.declared.Changed.{Changed}
 use Rattle.intake.specs.declared.Answer.{Answer}
 use Rattle.intake.specs.declared.Answer.the-variants as answer
 use Rattle.intake.specs.declared.Answered.{Answered}
-use Rattle.intake.specs.State.{laneAt}
-use Rattle.intake.specs.Calls.{openingRefusal, closingRefusal, packetStep}
+use Rattle.state.specs.State.{laneAt}
+use Rattle.intake.specs.Calls.{openedWith, openingRefusal, closingRefusal, packetStep}
 
 -- ---- opening
--- Opening gives a station number, APID, secondary length, share and cap; tallies and last start at 0
-abbrev pub openedWith : Settings → Lane
-openedWith settings =
-    record { opened = true; settings = settings; units = 0; packets = 0; missing = 0; broken = 0; last = 0; grouped = false; octets = 0 }
-
 abbrev pub withLane : State → ℕ → Lane → List ℕ → State
 withLane s i l marks = record { lanes = set (s .lanes) i l; marks = marks }
 
@@ -91,9 +86,9 @@ outAfter marks i l (step.Unit a on n) u pool out = put out 0 (unitOf marks i l o
 abbrev pub answerOf : Step → Answer
 answerOf (step.Refuse k) = answer.Refused k
 answerOf step.Repeat = answer.Repeat
-answerOf (step.Stray a) = answer.Stray (a .missing) (a .broke)
-answerOf (step.Hold a on n) = answer.Held (a .missing) (a .broke)
-answerOf (step.Unit a on n) = answer.Unit n (a .missing) (a .broke)
+answerOf (step.Stray a) = answer.Stray (a .missing) (a .«given_up»)
+answerOf (step.Hold a on n) = answer.Held (a .missing) (a .«given_up»)
+answerOf (step.Unit a on n) = answer.Unit n (a .missing) (a .«given_up»)
 
 -- the answer and the state after step d in lane i
 abbrev pub answered : State → ℕ → Step → Answered

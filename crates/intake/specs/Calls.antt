@@ -1,8 +1,9 @@
 -- The three calls: which refusal is given, or what is done.
-use Prim.Native.Nat.{ℕ, _+_}
-use mathlib.Core.Bool.{cond, not}
+use Prim.Native.Nat.{ℕ}
+use mathlib.Core.Bool.{true, false, cond, not}
 use mathlib.Core.List.{List, [], _∷_}
-use lib.Dec.{ltb, leb}
+use lib.ListN.{getD, set}
+use lib.Dec.{ltb}
 use Rattle.octets.specs.Order.{Test, _gives_, first}
 use Rattle.record.specs.Record.{recordSize}
 use Rattle.lane.specs.declared.Settings.{Settings}
@@ -11,10 +12,15 @@ use Rattle.grouping.specs.declared.Step.{Step}
 use Rattle.grouping.specs.declared.Step.the-variants.{Refuse}
 use Rattle.grouping.specs.declared.Plan.{Plan}
 use Rattle.grouping.specs.declared.Plan.the-variants.{Sure, Ask}
-use Rattle.lane.specs.Lane.{need, holding, illegal, talliesPossible}
+use Rattle.lane.specs.Lane.{closed, holding, illegal, talliesPossible}
 use Rattle.grouping.specs.Plans.{packetPlan}
-use Rattle.intake.specs.declared.State.{State}
-use Rattle.intake.specs.State.{laneAt, total, others, unsound}
+use Rattle.state.specs.declared.State.{State}
+use Rattle.state.specs.State.{laneAt, within, unsound}
+
+-- Opening gives a station number, APID, secondary length, share and cap; tallies and last start at 0
+abbrev pub openedWith : Settings → Lane
+openedWith settings =
+    record { opened = true; settings = settings; units = 0; packets = 0; missing = 0; broken = 0; last = 0; grouped = false; octets = 0 }
 
 -- Opening: 24, 11, 21, 22, 23; size is that of the lent pool
 abbrev pub openingTests : State → ℕ → Settings → ℕ → List (Test ℕ)
@@ -23,7 +29,7 @@ openingTests s i settings size =
     ∷ (ltb 7 i gives 11)
     ∷ (laneAt s i .opened gives 21)
     ∷ (illegal settings gives 22)
-    ∷ (ltb 64 (settings .share + total (s .lanes)) gives 23)
+    ∷ (not (within (set (s .lanes) i (openedWith settings))) gives 23)
     ∷ []
 
 unfoldable pub openingRefusal : State → ℕ → Settings → ℕ → ℕ
@@ -41,13 +47,13 @@ closingTests s i size room =
 unfoldable pub closingRefusal : State → ℕ → ℕ → ℕ → ℕ
 closingRefusal s i size room = first 0 (closingTests s i size room)
 
--- a plan that asks for room in lane l gets it where what the lane then counts for and the other lanes' sum are at most 64
-unfoldable pub settle : Lane → ℕ → Plan → Step
-settle l sum (Sure step) = step
-settle l sum (Ask n refusal step) = cond (leb (need (holding l n) + sum) 64) step (Refuse refusal)
+-- a plan that asks for room gets it where the lanes are within once lane i has an open group of n octets
+unfoldable pub settle : List Lane → ℕ → Plan → Step
+settle lanes i (Sure step) = step
+settle lanes i (Ask n refusal step) = cond (within (set lanes i (holding (getD lanes i closed) n))) step (Refuse refusal)
 
 -- Packet to a lane: 24, 11, reading, 12, 13, 14, 15, 16, 17, the repeat test, 18, 19, 20
 unfoldable pub packetStep : State → ℕ → List ℕ → ℕ → ℕ → Step
 packetStep s i packet size room =
-    first (settle (laneAt s i) (others (s .lanes) i) (packetPlan (laneAt s i) packet room))
+    first (settle (s .lanes) i (packetPlan (laneAt s i) packet room))
     ((unsound s size gives Refuse 24) ∷ [])

@@ -1,4 +1,3 @@
-pub mod State
 pub mod Calls
 pub mod After
 pub mod Told

@@ -1,11 +1,11 @@
-// The intake: eight lanes that share one pool. The state is handed in and back, the pool is lent; a refusal leaves everything as it was.
+// The intake's calls: open a lane, take a packet, close a lane. The state is handed in and back, the pool is lent; a refusal leaves everything as it was.
 mod closing;
 mod lanes;
 mod taking;
 
 ghost use mathlib.Core.Path.{_≡_};
 ghost use lib.ListN.{length};
-ghost use Rattle.intake.specs.State.{freshState, laneAt, sound, unsound};
+ghost use Rattle.state.specs.State.{laneAt};
 ghost use Rattle.intake.specs.Calls.{packetStep};
 ghost use Rattle.intake.specs.Told.{told, telling};
 ghost use Rattle.intake.specs.After.{refusedChange, opening, closing, closingOut, taking, takingPool, takingOut};
@@ -16,33 +16,20 @@ use grouping::plan_packet;
 use lane::CLOSED;
 use lane::Lane;
 use lane::Settings;
-use lane::is_fine;
 use lane::is_illegal;
-use lane::need_of;
-use lanes::blocks_of;
 use lanes::count_of;
 use lanes::lane_at;
 use lanes::opened_with;
-use lanes::total_of;
-use lanes::with_lane;
-use marks::marks_match;
-use pool::POOL_OCTETS;
+use lanes::with_one;
 use record::RecordWritten;
 use record::write_record;
+use state::State;
+use state::is_unsound;
+use state::is_within;
 use taking::answer_of;
 use taking::carry_out;
 use taking::settled;
 use taking::user_part;
-
-// The most blocks that the lanes hold or are promised.
-const MOST: usize = 64;
-
-// marks says of each block whose it is: 512 if it is free, else lane x 64 + place.
-#[repr(C)]
-pub struct State {
-    pub lanes: [Lane; 8],
-    pub marks: [u16; 64],
-}
 
 // What a packet is answered: packets missing before it, and whether a group was given up. A unit's octets lie at the front of the output.
 pub enum Answer {
@@ -76,54 +63,6 @@ pub struct Changed {
     pub state: State,
 }
 
-// Eight closed lanes, and every block free.
-pub fn fresh_start() -> State
-    ensures { λ r. ⌜ r ≡ freshState ⌝ }
-{
-    State {
-        lanes: [CLOSED; 8],
-        marks: [512; 64],
-    }
-}
-
-// Whether the state is sound. One pass over the lanes tells whether each is fine, what they come to and what they hold.
-pub fn is_sound(s: State) -> bool
-    ensures { λ r. ⌜ r ≡ sound s ⌝ }
-{
-    let lanes = s.lanes;
-    let count = count_of(lanes);
-    let mut held = [0u16; 8];
-    let mut total = 0;
-    let mut i = 0;
-    while i < count {
-        let l = lanes[i];
-        if !is_fine(l) {
-            return false;
-        }
-        total += need_of(l);
-        if l.octets != 0 {
-            held[i] = blocks_of(l.octets);
-        }
-        i += 1;
-    }
-    if MOST < total {
-        return false;
-    }
-    let marks = s.marks;
-    marks_match(marks, held)
-}
-
-// Whether a call is refused by 24.
-fn is_unsound(s: State, octets: usize) -> bool
-    ensures { λ r. ⌜ r ≡ unsound s octets ⌝ }
-{
-    if octets == POOL_OCTETS {
-        !is_sound(s)
-    } else {
-        true
-    }
-}
-
 fn refused(s: State, number: u8) -> Changed
     ensures { λ r. ⌜ r ≡ refusedChange s number ⌝ }
 {
@@ -150,13 +89,17 @@ pub fn open_lane(s: State, lane: usize, settings: Settings, pool: &[u8]) -> Chan
     if is_illegal(settings) {
         return refused(s, 22);
     }
-    if MOST < settings.share as usize + total_of(lanes) {
+    let opened = opened_with(settings);
+    if !is_within(lanes, lane, opened) {
         return refused(s, 23);
     }
     let marks = s.marks;
     Changed {
         refusal: 0,
-        state: with_lane(s, lane, opened_with(settings), marks),
+        state: State {
+            lanes: with_one(lanes, lane, opened),
+            marks,
+        },
     }
 }
 
@@ -225,7 +168,10 @@ pub fn close_lane(s: State, lane: usize, pool: &[u8], out: &mut [u8]) -> Changed
             release(&mut marks, lane, l);
             Changed {
                 refusal: 0,
-                state: with_lane(s, lane, CLOSED, marks),
+                state: State {
+                    lanes: with_one(lanes, lane, CLOSED),
+                    marks,
+                },
             }
         }
     }

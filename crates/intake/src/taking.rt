@@ -3,46 +3,35 @@
 ghost use mathlib.Core.Path.{_≡_};
 ghost use mathlib.Core.Bool.{true, false, cond};
 ghost use Prim.Native.Nat.{_+_, _≤_, _<_};
-ghost use lib.ListN.{length, drop};
-ghost use lib.Dec.{leb};
+ghost use lib.ListN.{length, getD, drop};
 ghost use Rattle.octets.specs.Output.{put as puts};
 ghost use Rattle.pool.specs.Octets.{poolOctets};
 ghost use Rattle.grouping.specs.declared.Step.the-variants.{Stray, Hold, Unit};
-ghost use Rattle.lane.specs.Lane.{fine};
+ghost use Rattle.lane.specs.Lane.{closed, fine};
 ghost use Rattle.grouping.specs.Steps.{counted, laneAfter};
-ghost use Rattle.intake.specs.State.{others};
 ghost use Rattle.intake.specs.Calls.{settle};
 ghost use Rattle.intake.specs.After.{grown, groupOf, answerOf, marksAfter, poolAfter, outAfter};
 ghost use Rattle.intake.specs.Ready.{Counts, Holds, Ends, Ready};
 use crate::Answer;
-use crate::MOST;
 use crate::closing::release;
-use crate::lanes::total_of;
-use crate::lanes::with_one;
+use crate::lanes::with_group;
 use grouping::Added;
 use grouping::Plan;
 use grouping::Step;
-use lane::CLOSED;
 use lane::Lane;
-use lane::need_with;
 use marks::blocks_for;
 use marks::grant_blocks;
 use numbers::one_if;
-use octets::put_octets;
 use packet::SPACE_HEADER;
 use pool::gather_octets;
 use pool::store_octets;
+use putting::put_octets;
+use state::is_within;
 
-// What the other lanes hold or are promised.
-fn others_of(lanes: [Lane; 8], i: usize) -> usize
-    ensures { λ r. ⌜ (r ≡ others lanes i) × (r ≤ 2048) ⌝ }
-{
-    total_of(with_one(lanes, i, CLOSED))
-}
-
-// The step that a plan of lane l comes to beside the other lanes.
+// The step that a plan comes to beside the other lanes, where l is the lane of that number.
 pub(crate) fn settled(lanes: [Lane; 8], i: usize, l: Lane, plan: Plan) -> Step
-    ensures { λ r. ⌜ r ≡ settle l (others lanes i) plan ⌝ }
+    requires { ⌜ l ≡ getD lanes i closed ⌝ }
+    ensures { λ r. ⌜ r ≡ settle lanes i plan ⌝ }
 {
     match plan {
         Plan::Sure(step) => step,
@@ -50,22 +39,11 @@ pub(crate) fn settled(lanes: [Lane; 8], i: usize, l: Lane, plan: Plan) -> Step
             octets,
             refusal,
             step,
-        } => if is_room(need_with(l, octets), others_of(lanes, i)) {
+        } => if is_within(lanes, i, with_group(l, octets)) {
             step
         } else {
             Step::Refuse(refusal)
         },
-    }
-}
-
-// Whether so many blocks and the other lanes' are at most 64; the sum could overflow, and is not made.
-fn is_room(blocks: usize, others: usize) -> bool
-    ensures { λ r. ⌜ r ≡ leb (blocks + others) 64 ⌝ }
-{
-    if blocks <= MOST {
-        others <= MOST - blocks
-    } else {
-        false
     }
 }
 
@@ -93,7 +71,7 @@ fn count_in(l: Lane, a: Added, units: u32, grouped: bool, octets: u16) -> Lane
         units: l.units + units,
         packets: l.packets + 1,
         missing: l.missing + a.missing as u32,
-        broken: l.broken + one_if(a.broke) as u32,
+        broken: l.broken + one_if(a.given_up) as u32,
         last: a.count,
         grouped,
         octets,
@@ -237,16 +215,16 @@ pub(crate) fn answer_of(step: Step) -> Answer
         Step::Repeat => Answer::Repeat,
         Step::Stray(a) => Answer::Stray {
             missing: a.missing,
-            given_up: a.broke,
+            given_up: a.given_up,
         },
         Step::Hold { added, .. } => Answer::Held {
             missing: added.missing,
-            given_up: added.broke,
+            given_up: added.given_up,
         },
         Step::Unit { added, octets, .. } => Answer::Unit {
             octets,
             missing: added.missing,
-            given_up: added.broke,
+            given_up: added.given_up,
         },
     }
 }

@@ -1,33 +1,34 @@
 -- What a fine lane is, clause by clause, both ways; and what legal settings are.
-use Prim.Native.Nat.{ℕ, _+_, _*_, _-_, _≤_}
+use Prim.Native.Nat.{ℕ, _+_, _*_, _-_, _≤_, _<_}
 use mathlib.Core.Path.{_≡_, refl, sym}
 use mathlib.Core.Bool.{Bool, true, false, not, _&&_, _||_, true≢false}
 use native.Mathlib.Omega.{arith}
-use borrow.Author.Tests.{leb-true, le-leb, ltb-false, le-ltb, eqb-true, eq-eqb}
+use borrow.Author.Tests.{leb-true, le-leb, ltb-true, ltb-false, lt-ltb, le-ltb, eqb-true, eq-eqb}
 use lib.Dec.{eqb, leb, ltb}
 use Rattle.octets.proofs.Order.{either, neither, both}
-use Rattle.marks.specs.Blocks.{blocksFor}
-use Rattle.record.specs.Record.{mostMissing, possible}
+use Rattle.packet.specs.Space.{counts}
+use Rattle.marks.specs.Blocks.{blocks, blocksFor}
+use Rattle.record.specs.Record.{mostApid, mostPackets, mostBetween, mostMissing, possible}
 use Rattle.lane.specs.declared.Settings.{Settings}
 use Rattle.lane.specs.declared.Lane.{Lane}
-use Rattle.lane.specs.Lane.{held, illegal, brokenWithGroup, talliesPossible, fine}
+use Rattle.lane.specs.Lane.{held, mostSecondary, illegal, brokenWithGroup, talliesPossible, fine}
 
 -- 16,382 for each packet but the first
-most-missing : (n : ℕ) → mostMissing n ≡ 16382 * (n - 1)
+most-missing : (n : ℕ) → mostMissing n ≡ mostBetween * (n - 1)
 most-missing n = either (eqb n 0) (λ e. simp e (omega (arith, eqb-true n 0 e))) (λ e. simp e)
 
 pub record Legal (s : Settings) : Type 0 where
-  pub apid : s .apid ≤ 2046
-  pub secondary : s .secondary ≤ 63
+  pub apid : s .apid ≤ mostApid
+  pub secondary : s .secondary ≤ mostSecondary
   pub share : s .share ≤ s .cap
-  pub cap : s .cap ≤ 64
+  pub cap : s .cap ≤ blocks
 
 pub is-legal : (s : Settings) → illegal s ≡ false → Legal s
 unfolding illegal
 is-legal s e =
-    let d = neither (ltb 2046 (s .apid) || ltb 63 (s .secondary) || ltb (s .cap) (s .share)) (ltb 64 (s .cap)) e in
-    let c = neither (ltb 2046 (s .apid) || ltb 63 (s .secondary)) (ltb (s .cap) (s .share)) (d .0) in
-    let b = neither (ltb 2046 (s .apid)) (ltb 63 (s .secondary)) (c .0) in
+    let d = neither (ltb mostApid (s .apid) || ltb mostSecondary (s .secondary) || ltb (s .cap) (s .share)) (ltb blocks (s .cap)) e in
+    let c = neither (ltb mostApid (s .apid) || ltb mostSecondary (s .secondary)) (ltb (s .cap) (s .share)) (d .0) in
+    let b = neither (ltb mostApid (s .apid)) (ltb mostSecondary (s .secondary)) (c .0) in
     record { apid = ltb-false _ _ (b .0); secondary = ltb-false _ _ (b .1); share = ltb-false _ _ (c .1); cap = ltb-false _ _ (d .1) }
 
 pub legal-is : (s : Settings) → Legal s → illegal s ≡ false
@@ -35,17 +36,17 @@ unfolding illegal
 legal-is s h = simp (le-ltb _ _ (h .apid), le-ltb _ _ (h .secondary), le-ltb _ _ (h .share), le-ltb _ _ (h .cap))
 
 pub record Tallies (l : Lane) : Type 0 where
-  pub apid : l .settings .apid ≤ 2046
-  pub packets : l .packets ≤ 262144
+  pub apid : l .settings .apid ≤ mostApid
+  pub packets : l .packets ≤ mostPackets
   pub units : l .units + brokenWithGroup l ≤ l .packets
-  pub missing : l .missing ≤ 16382 * (l .packets - 1)
+  pub missing : l .missing ≤ mostBetween * (l .packets - 1)
 
 pub are-possible : (l : Lane) → talliesPossible l ≡ true → Tallies l
 unfolding talliesPossible possible
 are-possible l e =
-    let d = both (leb (l .settings .apid) 2046 && leb (l .packets) 262144 && leb (l .units + brokenWithGroup l) (l .packets)) (leb (l .missing) (mostMissing (l .packets))) e in
-    let c = both (leb (l .settings .apid) 2046 && leb (l .packets) 262144) (leb (l .units + brokenWithGroup l) (l .packets)) (d .0) in
-    let b = both (leb (l .settings .apid) 2046) (leb (l .packets) 262144) (c .0) in
+    let d = both (leb (l .settings .apid) mostApid && leb (l .packets) mostPackets && leb (l .units + brokenWithGroup l) (l .packets)) (leb (l .missing) (mostMissing (l .packets))) e in
+    let c = both (leb (l .settings .apid) mostApid && leb (l .packets) mostPackets) (leb (l .units + brokenWithGroup l) (l .packets)) (d .0) in
+    let b = both (leb (l .settings .apid) mostApid) (leb (l .packets) mostPackets) (c .0) in
     record {
       apid = leb-true _ _ (b .0);
       packets = leb-true _ _ (b .1);
@@ -64,7 +65,7 @@ pub record Fine (l : Lane) : Type 0 where
   pub within : held l ≤ l .settings .cap
   pub nothing : l .grouped ≡ false → l .octets ≡ 0
   pub shut : l .opened ≡ false → l .grouped ≡ false
-  pub last : l .last ≤ 16383
+  pub last : l .last < counts
   pub tallies : Tallies l
 
 -- a || b says that b holds where a doesn't
@@ -94,7 +95,7 @@ abbrev d : Lane → Bool
 d l = l .opened || not (l .grouped)
 
 abbrev e : Lane → Bool
-e l = leb (l .last) 16383
+e l = ltb (l .last) counts
 
 pub is-fine : (l : Lane) → fine l ≡ true → Fine l
 unfolding fine
@@ -109,7 +110,7 @@ is-fine l h =
       within = leb-true _ _ (k .1);
       nothing = λ o. eqb-true _ _ (or-else (l .grouped) _ (j .1) o);
       shut = λ o. not-false _ (or-else (l .opened) _ (i .1) o);
-      last = leb-true _ _ (g .1);
+      last = ltb-true _ _ (g .1);
       tallies = are-possible l (f .1);
     }
 
@@ -121,7 +122,7 @@ fine-is l h =
       le-leb _ _ (h .within),
       else-or (l .grouped) (eqb (l .octets) 0) (λ o. eq-eqb _ _ (h .nothing o)),
       else-or (l .opened) (not (l .grouped)) (λ o. simp (h .shut o)),
-      le-leb _ _ (h .last),
+      lt-ltb _ _ (h .last),
       possible-are l (h .tallies),
     )
   where
@@ -130,7 +131,7 @@ fine-is l h =
     not-not false z = absurd (true≢false z)
 
 -- ---- a group fits the pool
-pub fits-pool : (n : ℕ) → blocksFor n ≤ 64 → n ≤ 16384
+pub fits-pool : (n : ℕ) → blocksFor n ≤ blocks → n ≤ 16384
 unfolding blocksFor
 fits-pool n h = omega arith
 
@@ -138,8 +139,8 @@ pub none-held : blocksFor 0 ≡ 0
 unfolding blocksFor
 none-held = refl
 
-pub held-most : (l : Lane) → fine l ≡ true → (held l ≤ 64) × (l .octets ≤ 16384)
+pub held-most : (l : Lane) → fine l ≡ true → (held l ≤ blocks) × (l .octets ≤ 16384)
 held-most l h =
     let is : Fine l = is-fine l h in
-    let few : held l ≤ 64 = either (l .opened) (λ o. omega (arith, is .within, is .legal o .cap)) (λ o. rw (is .nothing (is .shut o)) (omega (arith, none-held))) in
+    let few : held l ≤ blocks = either (l .opened) (λ o. omega (arith, is .within, is .legal o .cap)) (λ o. rw (is .nothing (is .shut o)) (omega (arith, none-held))) in
     (few, fits-pool (l .octets) few)

@@ -3,9 +3,10 @@ use Prim.Native.Nat.{ℕ, _+_, _≤_, _<_}
 use mathlib.Core.Path.{_≡_, refl, sym, ap, _∙_}
 use mathlib.Core.Bool.{Bool, true, false, not, _&&_, _||_, and-true, and-false}
 use native.Mathlib.Omega.{arith}
-use lib.Dec.{eqb, leb}
-use borrow.Author.Tests.{le-leb, lt-leb, ne-eqb}
+use lib.Dec.{eqb, ltb, leb}
+use borrow.Author.Tests.{le-leb, lt-leb, le-ltb, lt-ltb, ne-eqb}
 use Rattle.octets.specs.Octets.{one}
+use Rattle.packet.specs.Space.{counts}
 use Rattle.marks.specs.Blocks.{blocksFor}
 use Rattle.record.specs.Record.{possible}
 use Rattle.record.specs.declared.Record.{Record}
@@ -63,16 +64,16 @@ module _ (l : Lane) where
 
   -- ---- what is asked of open and of closed lanes
   abbrev kept : Bool
-  kept = leb (l .last) 16383 && (within && group) && talliesPossible l
+  kept = ltb (l .last) counts && (within && group) && talliesPossible l
 
-  pub last-over : 16383 < l .last → false ≡ kept
-  last-over h = rw (lt-leb (l .last) 16383 h)
+  pub last-over : counts ≤ l .last → false ≡ kept
+  last-over h = rw (le-ltb (l .last) counts h)
 
-  pub group-fails : l .last ≤ 16383 → (b : Bool) → b ≡ within && group → b ≡ false → false ≡ kept
-  group-fails h b e f = rw (le-leb (l .last) 16383 h, ← e, f)
+  pub group-fails : l .last < counts → (b : Bool) → b ≡ within && group → b ≡ false → false ≡ kept
+  group-fails h b e f = rw (lt-ltb (l .last) counts h, ← e, f)
 
-  pub tallies-decide : l .last ≤ 16383 → (b : Bool) → b ≡ within && group → b ≡ true → (t : Bool) → t ≡ talliesPossible l → t ≡ kept
-  tallies-decide h b e f t et = rw (le-leb (l .last) 16383 h, ← e, f) et
+  pub tallies-decide : l .last < counts → (b : Bool) → b ≡ within && group → b ≡ true → (t : Bool) → t ≡ talliesPossible l → t ≡ kept
+  tallies-decide h b e f t et = rw (lt-ltb (l .last) counts h, ← e, f) et
 
   -- ---- the whole
   pub not-legal : l .opened ≡ true → (b : Bool) → b ≡ illegal (l .settings) → b ≡ true → false ≡ fine l
@@ -81,11 +82,11 @@ module _ (l : Lane) where
 
   pub open-kept : l .opened ≡ true → (b : Bool) → b ≡ illegal (l .settings) → b ≡ false → (k : Bool) → k ≡ kept → k ≡ fine l
   unfolding fine
-  open-kept o b e f k ek = simp (o, sym e ∙ f) (ek ∙ last-first within group (leb (l .last) 16383) (talliesPossible l))
+  open-kept o b e f k ek = simp (o, sym e ∙ f) (ek ∙ last-first within group (ltb (l .last) counts) (talliesPossible l))
 
   pub group-in-closed : l .opened ≡ false → l .grouped ≡ true → false ≡ fine l
   unfolding fine
-  group-in-closed o g = simp (o, g) (fourth-fails within (leb (l .last) 16383) (talliesPossible l))
+  group-in-closed o g = simp (o, g) (fourth-fails within (ltb (l .last) counts) (talliesPossible l))
     where
       fourth-fails : (w e t : Bool) → false ≡ w && true && false && e && t
       fourth-fails true e t = refl
@@ -95,4 +96,4 @@ module _ (l : Lane) where
   unfolding fine
   closed-kept o g k ek =
       let shut : not (l .grouped) ≡ true = ap not g in
-      simp (o, shut) (ek ∙ last-first within group (leb (l .last) 16383) (talliesPossible l))
+      simp (o, shut) (ek ∙ last-first within group (ltb (l .last) counts) (talliesPossible l))

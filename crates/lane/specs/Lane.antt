@@ -3,8 +3,9 @@ use Prim.Native.Nat.{ℕ, _+_, max}
 use mathlib.Core.Bool.{Bool, true, false, cond, not, _&&_, _||_}
 use lib.Dec.{eqb, ltb, leb}
 use Rattle.octets.specs.Octets.{one}
-use Rattle.marks.specs.Blocks.{blocksFor}
-use Rattle.record.specs.Record.{possible}
+use Rattle.packet.specs.Space.{counts}
+use Rattle.marks.specs.Blocks.{blocks, blocksFor}
+use Rattle.record.specs.Record.{mostApid, possible}
 use Rattle.record.specs.declared.Record.{Record}
 use Rattle.lane.specs.declared.Settings.{Settings}
 use Rattle.lane.specs.declared.Lane.{Lane}
@@ -29,9 +30,13 @@ abbrev pub holding : Lane → ℕ → Lane
 holding l n =
     record { opened = l .opened; settings = l .settings; units = l .units; packets = l .packets; missing = l .missing; broken = l .broken; last = l .last; grouped = true; octets = n }
 
+-- the octets of the longest secondary header
+abbrev pub mostSecondary : ℕ
+mostSecondary = 63
+
 -- APID over 2046, secondary length over 63, share over cap, or cap over 64
 unfoldable pub illegal : Settings → Bool
-illegal s = ltb 2046 (s .apid) || ltb 63 (s .secondary) || ltb (s .cap) (s .share) || ltb 64 (s .cap)
+illegal s = ltb mostApid (s .apid) || ltb mostSecondary (s .secondary) || ltb (s .cap) (s .share) || ltb blocks (s .cap)
 
 abbrev pub brokenWithGroup : Lane → ℕ
 brokenWithGroup l = l .broken + one (l .grouped)
@@ -53,5 +58,5 @@ fine l =
     && leb (held l) (l .settings .cap)
     && (l .grouped || eqb (l .octets) 0)
     && (l .opened || not (l .grouped))
-    && leb (l .last) 16383
+    && ltb (l .last) counts
     && talliesPossible l

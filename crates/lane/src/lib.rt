@@ -2,13 +2,23 @@
 ghost use mathlib.Core.Path.{_≡_};
 ghost use mathlib.Core.Bool.{_&&_, _||_};
 ghost use Prim.Native.Nat.{_≤_};
-ghost use lib.Dec.{eqb, leb};
+ghost use lib.Dec.{eqb, ltb, leb};
+ghost use Rattle.packet.specs.Space.{counts};
 ghost use Rattle.lane.specs.Lane.{held, need, holding, illegal, talliesPossible, fine};
+use marks::BLOCKS;
 use marks::blocks_for;
 use numbers::larger;
 use numbers::one_if;
+use packet::COUNTS;
+use record::MOST_APID;
 use record::Record;
 use record::is_possible;
+
+// The octets of the longest secondary header.
+const MOST_SECONDARY: u8 = 63;
+
+// A lane may have every block.
+const MOST_CAP: u8 = BLOCKS as u8;
 
 // What an opening gives. share and cap count blocks.
 #[repr(C)]
@@ -53,30 +63,23 @@ pub const CLOSED: Lane = Lane {
     octets: 0,
 };
 
-// What a lane would count for in the pool with an open group of n octets.
-pub fn need_with(l: Lane, n: usize) -> usize
-    ensures { λ r. ⌜ r ≡ need (holding l n) ⌝ }
-{
-    if l.opened {
-        larger(blocks_for(n), l.settings.share as usize)
-    } else {
-        0
-    }
-}
-
 // What a lane counts for in the pool.
 pub fn need_of(l: Lane) -> usize
     ensures { λ r. ⌜ r ≡ need l ⌝ }
     ensures { λ r. ⌜ r ≤ 256 ⌝ }
 {
-    need_with(l, l.octets as usize)
+    if l.opened {
+        larger(blocks_for(l.octets as usize), l.settings.share as usize)
+    } else {
+        0
+    }
 }
 
 // Whether settings are refused by 22.
 pub fn is_illegal(s: Settings) -> bool
     ensures { λ r. ⌜ r ≡ illegal s ⌝ }
 {
-    (2046 < s.apid) | (63 < s.secondary) | (s.cap < s.share) | (64 < s.cap)
+    (MOST_APID < s.apid) | (MOST_SECONDARY < s.secondary) | (s.cap < s.share) | (MOST_CAP < s.cap)
 }
 
 // Whether the tallies, counting an open group as broken, form a possible record. The sum is made in 64 bits, where it can't wrap.
@@ -111,9 +114,9 @@ fn is_group_fine(l: Lane) -> bool
 
 // Whether the lane is as a sound state asks of it, be it open or closed.
 fn is_kept(l: Lane) -> bool
-    ensures { λ r. ⌜ r ≡ leb (l .last) 16383 && (leb (held l) (l .settings .cap) && (l .grouped || eqb (l .octets) 0)) && talliesPossible l ⌝ }
+    ensures { λ r. ⌜ r ≡ ltb (l .last) counts && (leb (held l) (l .settings .cap) && (l .grouped || eqb (l .octets) 0)) && talliesPossible l ⌝ }
 {
-    if 16383 < l.last {
+    if COUNTS <= l.last {
         return false;
     }
     if is_group_fine(l) {

@@ -2,21 +2,21 @@
 // answered is told in numbers. They are a crate of their own, so that a program that only reads and writes links nothing of them.
 ghost use mathlib.Core.Path.{_≡_};
 ghost use lib.ListN.{length};
-ghost use Rattle.intake.specs.State.{freshState, sound};
+ghost use Rattle.state.specs.State.{freshState, sound};
 ghost use Rattle.intake.specs.After.{opening, closing, closingOut, taking, takingPool, takingOut};
 ghost use Rattle.lanes.specs.Numbers.{telling, numbered};
 use intake::Answer;
 use intake::Answered;
 use intake::Changed;
-use intake::State;
 use lane::Settings;
+use state::State;
 
-// What a packet is answered, in numbers. kind: 0 refused, 1 repeat, 2 stray, 3 held, 4 unit; broke: a group was given up.
+// What a packet is answered, in numbers. kind: 0 refused, 1 repeat, 2 stray, 3 held, 4 unit; given_up: a group was given up.
 #[repr(C)]
 pub struct Numbered {
     pub refusal: u8,
     pub kind: u8,
-    pub broke: bool,
+    pub given_up: bool,
     pub missing: u16,
     pub octets: usize,
     pub state: State,
@@ -27,7 +27,7 @@ pub struct Numbered {
 pub extern "C" fn branmuslin_fresh_start() -> State
     ensures { λ r. ⌜ r ≡ freshState ⌝ }
 {
-    intake::fresh_start()
+    state::fresh_start()
 }
 
 // Whether the state is sound.
@@ -35,7 +35,7 @@ pub extern "C" fn branmuslin_fresh_start() -> State
 pub extern "C" fn branmuslin_is_sound(state: State) -> bool
     ensures { λ r. ⌜ r ≡ sound state ⌝ }
 {
-    intake::is_sound(state)
+    state::is_sound(state)
 }
 
 // Opens a lane.
@@ -55,7 +55,7 @@ pub extern "C" fn branmuslin_open_lane(
 struct Numbers {
     refusal: u8,
     kind: u8,
-    broke: bool,
+    given_up: bool,
     missing: u16,
     octets: usize,
 }
@@ -67,28 +67,28 @@ fn numbers_of(answer: Answer) -> Numbers
         Answer::Refused(refusal) => Numbers {
             refusal,
             kind: 0,
-            broke: false,
+            given_up: false,
             missing: 0,
             octets: 0,
         },
         Answer::Repeat => Numbers {
             refusal: 0,
             kind: 1,
-            broke: false,
+            given_up: false,
             missing: 0,
             octets: 0,
         },
         Answer::Stray { missing, given_up } => Numbers {
             refusal: 0,
             kind: 2,
-            broke: given_up,
+            given_up,
             missing,
             octets: 0,
         },
         Answer::Held { missing, given_up } => Numbers {
             refusal: 0,
             kind: 3,
-            broke: given_up,
+            given_up,
             missing,
             octets: 0,
         },
@@ -99,7 +99,7 @@ fn numbers_of(answer: Answer) -> Numbers
         } => Numbers {
             refusal: 0,
             kind: 4,
-            broke: given_up,
+            given_up,
             missing,
             octets,
         },
@@ -116,7 +116,7 @@ fn in_numbers(a: Answered) -> Numbered
     Numbered {
         refusal: n.refusal,
         kind: n.kind,
-        broke: n.broke,
+        given_up: n.given_up,
         missing: n.missing,
         octets: n.octets,
         state,

@@ -2,15 +2,17 @@
 // where reading or writing fails it says so on standard error, which `./branmuslin` turns into a status.
 use libc::STDIN_FILENO;
 use libc::STDOUT_FILENO;
+use listing::LONGEST;
+use listing::MOST_LISTED;
 
 // Room for one octet more than is listed, so that a longer recording shows.
-fn recording_room() -> [u8; 65537] {
-    [0; 65537]
+fn recording_room() -> [u8; LONGEST + 1] {
+    [0; LONGEST + 1]
 }
 
 // Room for every text: the law `room` of the crate listing says that none is longer.
-fn text_room() -> [u8; 1310752] {
-    [0; 1310752]
+fn text_room() -> [u8; MOST_LISTED] {
+    [0; MOST_LISTED]
 }
 
 fn main() {

@@ -9,12 +9,12 @@ use lib.Dec.{eqb}
 use lib.ListN.{length, drop}
 use Rattle.octets.proofs.Order.{either}
 use Rattle.packet.specs.Space.{version}
-use Rattle.reading.specs.Reading.{refusal, reading, size}
-use Rattle.packet.specs.Told.{told, numberOf, sizeOf}
+use Rattle.reading.specs.Reading.{refusal}
 use Rattle.packet.specs.declared.Packet.{Packet}
 use Rattle.packet.specs.declared.Packet.the-variants.{Space, Encapsulation, Refused}
-use Rattle.reading.proofs.Answers.{Says, says, number-read, size-read}
-use Rattle.walk.specs.Walk.{placesFrom, places, end, stop}
+use Rattle.reading.proofs.Answers.{Says, says}
+use Rattle.walk.specs.Walk.{Finds, placesFrom, places, end, stop}
+use Rattle.walk.specs.declared.Found.{Found}
 use Rattle.walk.proofs.Going.{Going, Turn, turned, at-end, at-refusal}
 use Rattle.listing.specs.Listing.{packetLine, packetLines, refusedLine, endLine, listing}
 use Rattle.listing.specs.Lines.{lineOf}
@@ -47,26 +47,25 @@ module _ (s : List ℕ) (at n : ℕ) (g : Going s at n) where
   unfolding packetLines refusedLine
   left-end h = let e = at-end s at n g h in simp (e .no-more, e .stop-here, e .end-here, e .all-counted)
 
-  -- what is read at index at, as the code has it: k is what `number_of` gave of it, z what `size_of` did
-  module _ (here : at < length s) (p : Packet) (e : told p ≡ reading (drop at s)) {k : ℕ} (number : k ≡ numberOf p) where
-    is : k ≡ refusal (drop at s)
-    is = number-read p (drop at s) e number
+  -- what is found at index at
+  module _ (here : at < length s) (found : Found) (f : Finds s at found) where
+    told-there : Says (found .packet) (drop at s)
+    told-there = says (found .packet) (drop at s) (f .tells)
 
-    pub left-more : k ≡ 0 → {z : ℕ} → z ≡ sizeOf p → Turn s at n z × (left s at n ≡ lineOf at p ++ left s (at + z) (n + 1))
+    pub left-more : found .refused ≡ 0 → Turn s at n (found .next) × (left s at n ≡ lineOf at (found .packet) ++ left s (found .next) (n + 1))
     unfolding packetLines
-    left-more none size =
-        let r = sym is ∙ none in
-        let t = turned s at n g r (size-read p (drop at s) e number none size) in
-        (t, simp (t .place, ← (read-line at p (drop at s) (says p (drop at s) e) r), append-assoc))
+    left-more none =
+        let r = sym (f .number) ∙ none in
+        let t = turned s at n g r (f .place) in
+        (t, simp (t .place, ← (read-line at (found .packet) (drop at s) told-there r), append-assoc))
 
-    pub left-refused : (k ≡ 0 → ⊥) → left s at n ≡ lineOf at p ++ endLine at n
+    pub left-refused : (found .refused ≡ 0 → ⊥) → left s at n ≡ lineOf at (found .packet) ++ endLine at n
     unfolding packetLines
     left-refused u =
-        let v : refusal (drop at s) ≡ 0 → ⊥ = λ z. u (is ∙ z) in
-        let t = at-refusal s at n g v here is in
-        simp (t .no-more, t .stop-here, t .end-here, t .all-counted, is, ← (refused-line at p (drop at s) (says p (drop at s) e) v))
+        let v : refusal (drop at s) ≡ 0 → ⊥ = λ z. u (f .number ∙ z) in
+        let t = at-refusal s at n g v here (f .number) in
+        simp (t .no-more, t .stop-here, t .end-here, t .all-counted, f .number, ← (refused-line at (found .packet) (drop at s) told-there v))
 
-  -- whatever is read, its line comes first
-  pub left-begins : at < length s → (p : Packet) → told p ≡ reading (drop at s) → (rest : List ℕ) × (left s at n ≡ lineOf at p ++ rest)
-  left-begins here p e =
-      either (eqb (numberOf p) 0) (λ t. (_, left-more here p e refl (eqb-true _ _ t) refl .1)) (λ f. (_, left-refused here p e refl (eqb-false _ _ f)))
+    -- whatever is found, its line comes first
+    pub left-begins : (rest : List ℕ) × (left s at n ≡ lineOf at (found .packet) ++ rest)
+    left-begins = either (eqb (found .refused) 0) (λ t. (_, left-more (eqb-true _ _ t) .1)) (λ e. (_, left-refused (eqb-false _ _ e)))

@@ -18,8 +18,11 @@ use Rattle.reading.proofs.Within.{HeaderIs, one, two, four, eight, header-is}
 use Rattle.walk.specs.Walk.{next, places, end, stop}
 use Rattle.walk.proofs.Rises.{Run, rises}
 use Rattle.text.specs.Text.{ascii, numbers}
-use Rattle.listing.specs.Listing.{lineEnd, line, packetLine, packetLines, refusedLine, endLine, listing, recordingText}
+use Rattle.listing.specs.Listing.{lineEnd, line, packetLine, packetLines, refusedLine, endLine, listing, longest, recordingText}
 use Rattle.text.proofs.Short.{digits-below, number-below}
+
+abbrev pub mostListed : ℕ
+mostListed = 1310752
 
 -- a line with four numbers, by their digits
 line-of-four : (at : ℕ) (word : List ℕ) (a b c d : ℕ) (i j k l : ℕ) → at < 10 ^ 5 → length word ≡ 6
@@ -34,7 +37,7 @@ line-of-four at word a b c d i j k l h w p q r s =
 abbrev Roomy : ℕ → List ℕ → Type 0
 Roomy at s = length (line at (ascii " encap") (protocol s ∷ extension s ∷ encapHeader s ∷ (encapSize s - encapHeader s) ∷ [])) ≤ 20 * encapSize s
 
-module _ (at : ℕ) (s : List ℕ) (h : at < 10 ^ 5) (n : length s ≤ 65536) where
+module _ (at : ℕ) (s : List ℕ) (h : at < 10 ^ 5) (n : length s ≤ longest) where
   encap-longer : 2 ≤ encapHeader s → encapHeader s < 10 → encapHeader s ≤ encapSize s → encapSize s ≤ length s → Roomy at s
   encap-longer two≤ small l w =
       omega (arith, line-of-four at (ascii " encap") (protocol s) (extension s) (encapHeader s) (encapSize s - encapHeader s) 0 1 0 4 h refl (omega arith) (omega arith) small (omega arith))
@@ -57,7 +60,7 @@ module _ (at : ℕ) (s : List ℕ) (h : at < 10 ^ 5) (n : length s ≤ 65536) wh
       simp (ne-eqb (version s) 0 (λ z. omega (arith, t .0 .1))) (encap-room (header-is s) l w)
 
 -- so the lines of a run have 20 for each of its octets, and there are no more packets than octets
-run-room : (s ps : List ℕ) (at e : ℕ) → length s ≤ 65536 → e ≤ length s → Run s at ps e
+run-room : (s ps : List ℕ) (at e : ℕ) → length s ≤ longest → e ≤ length s → Run s at ps e
     → (length (packetLines s ps) + 20 * at ≤ 20 * e) × (length ps + at ≤ e)
 unfolding packetLines
 run-room s [] at e n h r = (omega (arith, r), omega (arith, r))
@@ -82,7 +85,7 @@ stop-small : (s : List ℕ) (b : Bool) → cond b 0 (refusal (drop (end s) s)) �
 stop-small s true = omega arith
 stop-small s false = refusal-small (drop (end s) s)
 
-pub listing-room : (s : List ℕ) → length s ≤ 65536 → length (listing s) ≤ 1310752
+pub listing-room : (s : List ℕ) → length s ≤ longest → length (listing s) ≤ mostListed
 unfolding listing refusedLine stop
 listing-room s n =
     let r = rises s in
@@ -91,6 +94,6 @@ listing-room s n =
     simp length-append
     (omega (arith, l, r .1, refused-room (end s) (stop s) (omega (arith, r .1)) (omega (arith, k)) (eqb (stop s) 0), end-room (end s) (length (places s)) (omega (arith, r .1)) (omega (arith, l, r .1))))
 
-pub room : (s : List ℕ) → length (recordingText s) ≤ 1310752
+pub room : (s : List ℕ) → length (recordingText s) ≤ mostListed
 unfolding recordingText
-room s = either (leb (length s) 65536) (λ t. simp t (listing-room s (leb-true _ _ t))) (λ f. simp f (omega arith))
+room s = either (leb (length s) longest) (λ t. simp t (listing-room s (leb-true _ _ t))) (λ f. simp f (omega arith))

@@ -22,6 +22,10 @@ unfolding endLine lineEnd
 end-short at n h k =
     omega (arith, numbers-short (at ∷ n ∷ []) (h, (k, tt)), length-append (numbers (at ∷ n ∷ [])) (ascii "\n"))
 
+pub end-some : (at n : ℕ) → 0 < length (endLine at n)
+unfolding endLine lineEnd
+end-some at n = omega arith
+
 -- the numbers that a reader tells are small, and so is the line of what it tells
 pub packet-short : (at : ℕ) (p : Packet) (s : List ℕ) → Says p s → at < 2 ^ 64 → length s < 2 ^ 64 → length (lineOf at p) ≤ 128
 packet-short at (Space t x a f c n) s w h k =

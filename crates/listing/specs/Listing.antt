@@ -41,5 +41,8 @@ unfoldable pub listing : List ℕ → List ℕ
 listing s = packetLines s (places s) ++ refusedLine (end s) (stop s) ++ endLine (end s) (length (places s))
 
 -- what the program prints: at most 65,536 octets are listed; more: the single line `too long`
+abbrev pub longest : ℕ
+longest = 65536
+
 unfoldable pub recordingText : List ℕ → List ℕ
-recordingText s = cond (leb (length s) 65536) (listing s) (ascii "too long\n")
+recordingText s = cond (leb (length s) longest) (listing s) (ascii "too long\n")

@@ -11,10 +11,8 @@ ghost use Rattle.listing.specs.Listing.{listing, recordingText};
 ghost use Rattle.listing.specs.Told.{told, listed, after, octetsOf};
 use lines::put_end;
 use lines::put_packet;
-use packet::number_of;
-use packet::size_of;
 use text::put;
-use walk::packet_at;
+use walk::look_at;
 
 // What listing gives: the octets written, or that the output is too short.
 pub enum Listed {
@@ -35,7 +33,7 @@ pub fn list(s: &[u8], out: &mut [u8]) -> Listed
 }
 
 // The longest recording that is listed.
-const LONGEST: usize = 65536;
+pub const LONGEST: usize = 65536;
 
 // Writes the text for a recording at the front of out, if it fits: its listing, or `too long`.
 pub fn list_recording(s: &[u8], out: &mut [u8]) -> Listed
@@ -71,8 +69,8 @@ pub fn written(listed: Listed, text: &[u8]) -> &[u8]
     if n <= text.len() { &text[..n] } else { text }
 }
 
-// The most octets that the listing of so long a recording has (`listing-room`, proofs/Room.antt).
-const MOST_LISTED: usize = 1310752;
+// The most octets that the text for a recording has (`room`, proofs/Room.antt).
+pub const MOST_LISTED: usize = 1310752;
 
 // Whether the listing of s has at most `room` octets. Where the longest listing would fit, as in the output of the program, it need not be
 // measured.
@@ -96,20 +94,25 @@ fn fits(s: &[u8], room: usize) -> bool
     let mut at = 0;
     let mut packets = 0;
     let mut left = room;
-    while at < s.len() {
-        let p = packet_at(s, at);
+    let last = loop {
+        if s.len() <= at {
+            break left;
+        }
+        let found = look_at(s, at);
+        let p = found.packet;
         let line = put_packet(&mut scratch, 0, at, p);
+        // Where a line doesn't fit there is no room for the last one either.
         if left < line {
-            return false;
+            break 0;
         }
         left -= line;
-        if number_of(p) != 0 {
-            break;
+        if found.refused != 0 {
+            break left;
         }
-        at += size_of(p);
+        at = found.next;
         packets += 1;
-    }
-    put_end(&mut scratch, 0, at, packets) <= left
+    };
+    put_end(&mut scratch, 0, at, packets) <= last
 }
 
 // Puts the whole listing, and answers its length.
@@ -121,14 +124,18 @@ fn put_all(s: &[u8], out: &mut [u8]) -> usize
     let mut at = 0;
     let mut packets = 0;
     let mut to = 0;
-    while at < s.len() {
-        let p = packet_at(s, at);
-        to = put_packet(out, to, at, p);
-        if number_of(p) != 0 {
-            break;
+    let last = loop {
+        if s.len() <= at {
+            break to;
         }
-        at += size_of(p);
+        let found = look_at(s, at);
+        let p = found.packet;
+        to = put_packet(out, to, at, p);
+        if found.refused != 0 {
+            break to;
+        }
+        at = found.next;
         packets += 1;
-    }
-    put_end(out, to, at, packets)
+    };
+    put_end(out, last, at, packets)
 }

@@ -43,14 +43,18 @@ encapSize s = sizeFor (encapHeader s) s
 abbrev pub limit : ℕ
 limit = 65542
 
+-- the extension is 0 unless the protocol ID is this one
+abbrev pub extended : ℕ
+extended = 6
+
 -- extension not 0 with another ID than 6: of protocol ID p and extension x
 abbrev pub extendsAnother : ℕ → ℕ → Bool
-extendsAnother p x = not (eqb x 0) && not (eqb p 6)
+extendsAnother p x = not (eqb x 0) && not (eqb p extended)
 
 -- protocol ID 6 in a 1 or 2 octet header; or extension not 0 with another ID; or CCSDS field not 0: of header octets h, protocol ID p,
 -- extension x, CCSDS field f
 abbrev pub misnames : ℕ → ℕ → ℕ → ℕ → Bool
-misnames h p x f = (eqb p 6 && ltb h 4) || extendsAnother p x || not (eqb f 0)
+misnames h p x f = (eqb p extended && ltb h 4) || extendsAnother p x || not (eqb f 0)
 
 abbrev pub misnamed : List ℕ → Bool
 misnamed s = misnames (encapHeader s) (protocol s) (extension s) (ccsds s)

@@ -5,6 +5,20 @@ ghost use Rattle.packet.specs.Told.{numberOf, sizeOf, headerOf};
 // The octets of a Space Packet's header.
 pub const SPACE_HEADER: usize = 6;
 
+// An APID has 11 bits and a count 14: how many there are of each.
+pub const APIDS: u16 = 2048;
+
+pub const COUNTS: u16 = 16384;
+
+// The APID of idle packets, which never have a secondary header.
+pub const IDLE: u16 = 2047;
+
+// The most octets that a data field has.
+pub const LONGEST_DATA: usize = 65536;
+
+// The one protocol ID that has an extension.
+pub const EXTENDED: u8 = 6;
+
 // Our limit of octets a packet, which is the longest Space Packet's size too.
 pub const LIMIT: usize = 65542;
 

@@ -10,7 +10,7 @@ use marks::BLOCK_OCTETS;
 use marks::BLOCKS;
 use marks::blocks_for;
 use numbers::smaller;
-use octets::put_octets;
+use putting::put_octets;
 
 // Where octet k of a group lies in the pool, in this block.
 fn in_block(block: u8, k: usize) -> usize

@@ -60,14 +60,6 @@ size-told (Encapsulation p u x h n) s w e =
     simp (ne-eqb (version s) 0 (w .1)) (w .5, omega (arith, w .5, w .6, simp (ne-eqb (version s) 0 (w .1)) at b))
 size-told (Refused k) s w e = absurd (omega arith)
 
--- the same of an answer as the code has it: k is what `number_of` gave of it, n what `size_of` did
-module _ (p : Packet) (s : List ℕ) (e : told p ≡ reading s) {k : ℕ} (number : k ≡ numberOf p) where
-  pub number-read : k ≡ refusal s
-  number-read = number ∙ number-told p s (says p s e)
-
-  pub size-read : k ≡ 0 → {n : ℕ} → n ≡ sizeOf p → n ≡ size s
-  size-read z size = size ∙ size-told p s (says p s e) (sym number-read ∙ z) .1
-
 -- the part from a to e of s is the data that the definition says, where it says, and lies within s
 abbrev pub PartIs : ℕ → ℕ → List ℕ → Type 0
 PartIs a e s = (a ≤ e) × (e ≤ length s) × (take (e - a) (drop a s) ≡ content s) × (a ≡ contentAt s)

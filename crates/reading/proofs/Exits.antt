@@ -7,14 +7,14 @@ use native.Mathlib.Omega.{arith}
 use borrow.Author.Tests.{eq-eqb, ne-eqb}
 use lib.Dec.{ltb}
 use Rattle.octets.specs.Octets.{octet, be16}
-use Rattle.packet.specs.Space.{version, flagsIdle, flaggedIdle}
+use Rattle.packet.specs.Space.{version, apids, counts, flagsIdle, flaggedIdle}
 use Rattle.packet.specs.Encapsulation.{limit, protocol, headerFor, encapHeader, user, extension, sizeFor, encapSize, misnames, misnamed, namesEmpty, emptyNamed}
 use Rattle.reading.specs.Reading.{refusal, fields, reading}
 use Rattle.reading.specs.Causes.{Version, Whole, space, encapsulation}
 use Rattle.reading.proofs.Exactly.{exactly-whole, accepted}
 
 module _ (s : List ℕ) where
-  pub idle-read : {x o : ℕ} → x ≡ be16 s 0 → o ≡ octet s 0 → flagsIdle (x % 2048) (o / 8 % 2) ≡ flaggedIdle s
+  pub idle-read : {x o : ℕ} → x ≡ be16 s 0 → o ≡ octet s 0 → flagsIdle (x % apids) (o / 8 % 2) ≡ flaggedIdle s
   idle-read a b = rw (a, b)
 
   -- a first octet o, a header of h octets, an octet 1 of x, a CCSDS field f, a packet of z octets
@@ -48,7 +48,7 @@ module _ (s : List ℕ) where
     whole none = exactly-whole s .0 (sym settled ∙ none)
 
     pub space-told : k ≡ 0 → Version 0 s → {o b x y z : ℕ} → o ≡ octet s 0 → x ≡ be16 s 0 → b ≡ octet s 2 → y ≡ be16 s 2 → z ≡ be16 s 4
-        → 0 ∷ 0 ∷ (o / 16 % 2) ∷ (o / 8 % 2) ∷ (x % 2048) ∷ (b / 64 % 4) ∷ (y % 16384) ∷ (z + 1) ∷ [] ≡ reading s
+        → 0 ∷ 0 ∷ (o / 16 % 2) ∷ (o / 8 % 2) ∷ (x % apids) ∷ (b / 64 % 4) ∷ (y % counts) ∷ (z + 1) ∷ [] ≡ reading s
     unfolding fields
     space-told none v o x b y z = rw (o, x, b, y, z) (simp (eq-eqb (version s) 0 (v .1)) at (accepted (whole none)))
 

@@ -10,6 +10,7 @@ ghost use Rattle.packet.specs.Told.{told};
 use octets::be16_at;
 use octets::be32_at;
 use octets::octet_at;
+use packet::EXTENDED;
 use packet::LIMIT;
 use packet::Packet;
 
@@ -61,7 +62,9 @@ fn ccsds_for(h: u8, s: &[u8]) -> u16
 fn is_misnamed(header: u8, protocol: u8, extension: u8, ccsds: u16) -> bool
     ensures { λ r. ⌜ r ≡ misnames header protocol extension ccsds ⌝ }
 {
-    ((protocol == 6) & (header < 4)) | ((extension != 0) & (protocol != 6)) | (ccsds != 0)
+    ((protocol == EXTENDED) & (header < 4))
+        | ((extension != 0) & (protocol != EXTENDED))
+        | (ccsds != 0)
 }
 
 // The refusal of a packet of version 111, or 0.

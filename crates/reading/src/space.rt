@@ -5,11 +5,11 @@ ghost use Rattle.reading.specs.Causes.{Version};
 ghost use Rattle.packet.specs.Told.{told};
 use octets::be16_at;
 use octets::octet_at;
+use packet::APIDS;
+use packet::COUNTS;
+use packet::IDLE;
 use packet::Packet;
 use packet::SPACE_HEADER;
-
-// The APID of idle packets, which never have a secondary header.
-const IDLE: u16 = 2047;
 
 // The refusal of a packet of version 000, or 0.
 fn refusal_of(s: &[u8]) -> u8
@@ -19,7 +19,7 @@ fn refusal_of(s: &[u8]) -> u8
     if s.len() < SPACE_HEADER {
         return 1;
     }
-    if (be16_at(s, 0) % 2048 == IDLE) & (octet_at(s, 0) / 8 % 2 == 1) {
+    if (be16_at(s, 0) % APIDS == IDLE) & (octet_at(s, 0) / 8 % 2 == 1) {
         return 3;
     }
     let octets = be16_at(s, 4) as usize + 1;
@@ -42,9 +42,9 @@ pub(crate) fn read(s: &[u8]) -> Packet
     Packet::Space {
         packet_type: first / 16 % 2,
         secondary: first / 8 % 2,
-        apid: be16_at(s, 0) % 2048,
+        apid: be16_at(s, 0) % APIDS,
         flags: octet_at(s, 2) / 64 % 4,
-        count: be16_at(s, 2) % 16384,
+        count: be16_at(s, 2) % COUNTS,
         octets: be16_at(s, 4) as u32 + 1,
     }
 }

@@ -30,25 +30,27 @@ module _ (s t : List ℕ) (same : (k : ℕ) → k < recordSize → octet s k ≡
   }
 
 -- so it is the same in zeros in which the first 20 octets lie, or as many as there are
-module _ (s : List ℕ) (n : ℕ) (front : n ≡ min (length s) recordSize) where
-  abbrev zeros : List ℕ
-  zeros = replicate recordSize 0
-
-  in-zeros : (k : ℕ) → k < recordSize → octet (put zeros 0 (take n s)) k ≡ octet s k
+module _ (m k : ℕ) (h : k < m) where
+  in-zeros : (t : List ℕ) → octet (put (replicate m 0) 0 t) k ≡ octet t k
   unfolding put
-  in-zeros k h =
-      let t = take n s in
-      let has : length t ≡ n = length-take-le n s (omega (arith, front)) in
-      elim (decLt k n) [
-        | yes low ↦ List·getD-append t (drop (0 + length t) zeros) 0 k (omega (arith, has)) ∙ getD-take n s k 0 low
+  in-zeros t =
+      elim (decLt k (length t)) [
+        | yes low ↦ List·getD-append t (drop (0 + length t) (replicate m 0)) 0 k low
         | no high ↦
-            let at : k ≡ length t + (k - n) = omega (arith, has) in
-            ap (octet (t ++ drop (0 + length t) zeros)) at ∙ getD-append-add t (drop (0 + length t) zeros) (k - n) 0
-            ∙ getD-drop (0 + length t) zeros (k - n) 0 ∙ getD-replicate recordSize (0 + length t + (k - n)) 0 0 (omega (arith, has))
-            ∙ octet-past s k (omega (arith, front))
+            let at : k ≡ length t + (k - length t) = omega arith in
+            ap (octet (t ++ drop (0 + length t) (replicate m 0))) at ∙ getD-append-add t (drop (0 + length t) (replicate m 0)) (k - length t) 0
+            ∙ getD-drop (0 + length t) (replicate m 0) (k - length t) 0 ∙ getD-replicate m (0 + length t + (k - length t)) 0 0 (omega arith)
+            ∙ octet-past t k (omega arith)
       ]
 
-  pub same-in-zeros : recordIn (putIfFits zeros 0 (take n s)) ≡ recordIn s
-  same-in-zeros =
-      ap recordIn (sym (put-fits zeros 0 (take n s) (omega (arith, front, length-take-le n s (omega (arith, front))))))
-      ∙ same-record (put zeros 0 (take n s)) s in-zeros
+  of-the-first : (s : List ℕ) (n : ℕ) → n ≡ min (length s) m → octet (take n s) k ≡ octet s k
+  of-the-first s n front =
+      elim (decLt k n) [
+        | yes low ↦ getD-take n s k 0 low
+        | no high ↦ omega (arith, octet-past (take n s) k (omega (arith, length-take-le n s (omega (arith, front)))), octet-past s k (omega (arith, front)))
+      ]
+
+pub same-in-zeros : (s : List ℕ) (n : ℕ) → n ≡ min (length s) recordSize → recordIn (putIfFits (replicate recordSize 0) 0 (take n s)) ≡ recordIn s
+same-in-zeros s n front =
+    ap recordIn (sym (put-fits (replicate recordSize 0) 0 (take n s) (omega (arith, front, length-take-le n s (omega (arith, front))))))
+    ∙ same-record (put (replicate recordSize 0) 0 (take n s)) s (λ k h. in-zeros recordSize k h (take n s) ∙ of-the-first recordSize k h s n front)

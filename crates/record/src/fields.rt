@@ -7,8 +7,8 @@ ghost use Rattle.octets.specs.Octets.{octet, be16, be32};
 ghost use Rattle.octets.specs.Output.{put as puts};
 ghost use Rattle.record.specs.Record.{recordSize, recordIn, recordOctets, mostMissing};
 use crate::Record;
-use octets::put_be16;
-use octets::put_be32;
+use putting::put_be16;
+use putting::put_be32;
 
 pub(crate) const SIZE: usize = 20;
 

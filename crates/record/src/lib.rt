@@ -13,7 +13,7 @@ use fields::is_missing_possible;
 use fields::put_fields;
 use fields::record_in;
 use numbers::smaller;
-use octets::put_octets;
+use putting::put_octets;
 
 // The largest APID, and the most packets, that a record can have.
 pub const MOST_APID: u16 = 2046;

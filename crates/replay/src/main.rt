@@ -30,7 +30,7 @@ fn text_room() -> [u8; 65536] {
 fn replay(run: &[u8], pool: &mut [u8], out: &mut [u8], text: &mut [u8]) -> bool
     requires { ⌜ lineRoom ≤ length (now text) ⌝ }
 {
-    let mut progress = replaying::begin();
+    let mut progress = runfile::begin();
     while !progress.done {
         let chunk = replaying::replay_some(run, progress, pool, out, text);
         let octets = chunk.octets;

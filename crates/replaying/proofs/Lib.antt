@@ -1,6 +1,5 @@
-pub mod Adding
-pub mod Front
-pub mod Short
+mod Front
+mod Short
 pub mod Steps
-pub mod Chunks
+mod Chunks
 pub mod Whole

@@ -1,16 +1,22 @@
 -- No step of a run has more than 192 octets of text: a line has at most eight numbers of 64 bits, of at most 20 digits each.
 use Prim.Native.Nat.{ℕ, suc, _+_, _^_, _≤_, _<_}
+use mathlib.Core.Path.{_≡_, _∙_}
 use mathlib.Core.List.{List, [], _∷_}
 use native.Mathlib.Omega.{arith}
 use lib.ListN.{length, getD, length-append}
 use Rattle.text.proofs.Short.{Small, decimal-short, numbers-short}
 use Rattle.text.proofs.Cut.{Put, wrote}
-use Rattle.replaying.specs.Adler.{base, plus, adlerFrom, adler}
+use Rattle.adler.specs.Adler.{adler}
+use Rattle.adler.proofs.Below.{adler-below}
 use Rattle.replaying.specs.Lines.{line, badLine, endLine, lineRoom, Lined}
 
 -- what is short enough is put whole
 pub lined : (d : List ℕ) (at : ℕ) (text : List ℕ) {out : List ℕ} {to : ℕ} → at + lineRoom ≤ length d → length text ≤ lineRoom → Put d at text out to → Lined d at text out to
 lined d at text room short p = let w = wrote d at text (omega arith) p in (w .0, w .1, omega (arith, w .0))
+
+-- the place after it, by another name
+pub lined-to : (d : List ℕ) (at : ℕ) (text : List ℕ) {out : List ℕ} {to to′ : ℕ} → to′ ≡ to → Lined d at text out to → Lined d at text out to′
+lined-to d at text e (p, q, r) = (e ∙ p, q, omega (arith, e, r))
 
 pub small : (ns : List ℕ) → ((k : ℕ) → getD ns k 0 < 2 ^ 64) → Small ns
 small [] h = tt
@@ -26,13 +32,7 @@ pub bad-short : (at : ℕ) → at < 2 ^ 64 → length (badLine at) ≤ 25
 unfolding badLine
 bad-short at h = simp length-append (omega (arith, decimal-short at h))
 
--- an Adler-32 has 32 bits
-adler-below : (a b : ℕ) (s : List ℕ) → a < base → b < base → adlerFrom a b s < 2 ^ 32
-unfolding adlerFrom
-adler-below a b [] h k = omega arith
-adler-below a b (x ∷ s) h k = adler-below (plus a x) (plus b (plus a x)) s (omega arith) (omega arith)
-
 pub end-short : (at calls : ℕ) (pool : List ℕ) → at < 2 ^ 64 → calls < 2 ^ 64 → length (endLine at calls pool) ≤ 68
-unfolding endLine adler
+unfolding endLine
 end-short at calls pool h k =
-    simp length-append (omega (arith, numbers-short (at ∷ calls ∷ adler pool ∷ []) (h, (k, (omega (arith, adler-below 1 0 pool (omega arith) (omega arith)), tt)))))
+    simp length-append (omega (arith, numbers-short (at ∷ calls ∷ adler pool ∷ []) (h, (k, (omega (arith, adler-below pool), tt)))))

@@ -1,22 +1,22 @@
 -- One step of a run: which of the three it is, and that it leads on. What carries `step` and both loops over it.
 use Prim.Native.Nat.{ℕ, suc, _+_, _-_, _≤_, _<_}
-use mathlib.Core.Path.{_≡_, refl, sym, ap, _∙_}
+use mathlib.Core.Path.{_≡_, refl, sym, ap, _∙_, subst}
 use mathlib.Core.Bool.{true, false, cond, not, _&&_}
 use mathlib.Core.List.{List}
 use native.Mathlib.Omega.{arith}
 use borrow.Author.Tests.{eq-eqb, ne-eqb, lt-ltb, le-ltb, eqb-false, leb-true, not-true}
 use lib.Dec.{eqb, leb, ltb}
-use lib.ListN.{length, drop, length-drop}
-use Rattle.octets.specs.Octets.{octet, be32}
+use lib.ListN.{length, take, drop, length-drop}
+use lib.Seq.{take-all}
 use Rattle.octets.proofs.Order.{either, neither, both}
 use Rattle.text.specs.Text.{ascii}
-use Rattle.replaying.specs.Calls.{openingIn, packetIn, closingIn, callIn, callSize}
-use Rattle.replaying.specs.Running.{ran, callPool, callOut}
+use Rattle.runfile.specs.Calls.{callIn, callSize}
+use Rattle.runfile.specs.declared.Progress.{Progress}
+use Rattle.runfile.proofs.Fits.{call-fits}
 use Rattle.replaying.specs.Lines.{lineOf, lastLines, lineRoom, Lined}
-use Rattle.replaying.specs.Run.{Standing, standing, finished, longest, call, stops, next, nextText, ready, stepsLeft}
-use Rattle.replaying.specs.declared.Call.{Call}
+use Rattle.replaying.specs.Run.{Standing, standing, finished, longest, ahead, call, stops, next, nextText, ready, stepsLeft}
 use Rattle.replaying.specs.declared.Ran.{Ran}
-use Rattle.replaying.specs.declared.Progress.{Progress}
+use Rattle.replaying.proofs.Front.{Done, size-told, stopped-leaves}
 
 -- ---- which step it is
 module _ (s : List ℕ) (w : Standing) where
@@ -27,22 +27,38 @@ module _ (s : List ℕ) (w : Standing) where
   unfolding next nextText stops
   too-long h = simp (lt-ltb longest (length s) h) (refl, refl)
 
-  -- cl is the call here, and size its octets, as the code has them
-  module _ (l : length s ≤ longest) (cl : Call) (e : cl ≡ call s w) (size : ℕ) (z : size ≡ callSize cl) where
-    pub last : size ≡ 0 → (ends ≡ next s w) × (lastLines (length s) (w .progress .at) (w .progress .calls) (w .pool) ≡ nextText s w)
-    unfolding next nextText stops
-    last n = simp (le-ltb longest (length s) l, eq-eqb (callSize (call s w)) 0 (sym (z ∙ ap callSize e) ∙ n)) (refl, refl)
+  -- what is left of the run file, as the code lends it, was run
+  pub here : {r : Ran} {pool out : List ℕ} → let x = take (length s - w .progress .at) (ahead s w) in Done (w .progress .state) x (w .pool) (w .out) r pool out (callIn x)
+      → Done (w .progress .state) (ahead s w) (w .pool) (w .out) r pool out (call s w)
+  here {r} {pool} {out} d =
+      subst (λ (x : List ℕ). Done (w .progress .state) x (w .pool) (w .out) r pool out (callIn x))
+      (take-all (length s - w .progress .at) (ahead s w) (omega (arith, length-drop (w .progress .at) s))) d
 
-    pub called : (size ≡ 0 → ⊥) → (r : Ran) (pool out : List ℕ)
-        → r ≡ ran (w .progress .state) (drop (w .progress .at) s) (w .pool) (w .out) cl
-        → pool ≡ callPool (w .progress .state) (drop (w .progress .at) s) (w .pool) (w .out) cl
-        → out ≡ callOut (w .progress .state) (drop (w .progress .at) s) (w .pool) (w .out) cl
-        → (standing (record { at = w .progress .at + size; calls = w .progress .calls + 1; done = false; state = r .state }) pool out ≡ next s w)
+  module _ (r : Ran) (pool out : List ℕ) (h : Done (w .progress .state) (ahead s w) (w .pool) (w .out) r pool out (call s w)) where
+    size : r .octets ≡ callSize (call s w)
+    size = ap (λ (x : Ran). x .octets) (h .0) ∙ size-told (w .progress .state) (ahead s w) (w .pool) (w .out) (call s w)
+
+    pub ran-within : w .progress .at ≤ length s → w .progress .at + r .octets ≤ length s
+    ran-within l = omega (arith, size, call-fits (ahead s w), length-drop (w .progress .at) s)
+
+    pub last : length s ≤ longest → r .octets ≡ 0
+        → (standing (finished (w .progress)) pool out ≡ next s w) × (lastLines (length s) (w .progress .at) (w .progress .calls) pool ≡ nextText s w)
+    unfolding next nextText stops
+    last l z =
+        let none : callSize (call s w) ≡ 0 = sym size ∙ z in
+        let same = stopped-leaves (w .progress .state) (ahead s w) (w .pool) (w .out) (call s w) none in
+        rw (h .1 .0 ∙ same .0, h .1 .1 ∙ same .1) (simp (le-ltb longest (length s) l, eq-eqb (callSize (call s w)) 0 none) (refl, refl))
+
+    pub called : length s ≤ longest → (r .octets ≡ 0 → ⊥)
+        → (standing (record { at = w .progress .at + r .octets; calls = w .progress .calls + 1; done = false; state = r .state }) pool out ≡ next s w)
         × (lineOf (w .progress .at) (r .outcome) out ≡ nextText s w)
     unfolding next nextText stops
-    called n r pool out f g h =
-        rw (f, g, h, z, e)
-        (simp (le-ltb longest (length s) l, ne-eqb (callSize (call s w)) 0 (λ zero. n (z ∙ ap callSize e ∙ zero))) (refl, refl))
+    called l n =
+        let fits = le-ltb longest (length s) l in
+        let some = ne-eqb (callSize (call s w)) 0 (λ zero. n (size ∙ zero)) in (
+          (λ i. standing (record { at = w .progress .at + size i; calls = w .progress .calls + 1; done = false; state = h .0 i .state }) (h .1 .0 i) (h .1 .1 i)) ∙ simp (fits, some),
+          (λ i. lineOf (w .progress .at) (h .0 i .outcome) (h .1 .1 i)) ∙ simp (fits, some),
+        )
 
 -- what `step` promises, where x is the standing after it and t its text
 abbrev pub Stepped : Standing → List ℕ → List ℕ → ℕ → Progress → List ℕ → List ℕ → List ℕ → ℕ → Type 0
@@ -54,27 +70,6 @@ stepped s w x t d to (e, f) g = rw (← e, ← f) g
 
 pub stands : (x : Standing) {p : Progress} {pool out : List ℕ} → p ≡ x .progress → pool ≡ x .pool → out ≡ x .out → standing p pool out ≡ x
 stands x e f g = rw (e, f, g)
-
--- ---- a call lies within what is left
-module _ (s : List ℕ) where
-  opening-fits : callSize (openingIn s) ≤ length s
-  unfolding openingIn
-  opening-fits = either (leb 9 (length s)) (λ t. simp t (leb-true _ _ t)) (λ f. simp f (omega arith))
-
-  packet-fits : callSize (packetIn s) ≤ length s
-  unfolding packetIn
-  packet-fits = either (leb (10 + be32 s 6) (length s)) (λ t. simp t (leb-true _ _ t)) (λ f. simp f (omega arith))
-
-  closing-fits : callSize (closingIn s) ≤ length s
-  unfolding closingIn
-  closing-fits = either (leb 6 (length s)) (λ t. simp t (leb-true _ _ t)) (λ f. simp f (omega arith))
-
-  pub call-fits : callSize (callIn s) ≤ length s
-  unfolding callIn
-  call-fits =
-      either (eqb (octet s 0) 79) (λ t. simp t opening-fits)
-      (λ o. either (eqb (octet s 0) 80) (λ t. simp (o, t) packet-fits)
-      (λ p. either (eqb (octet s 0) 67) (λ t. simp (o, p, t) closing-fits) (λ c. simp (o, p, c) (omega arith))))
 
 -- ---- what a step asks for
 pub record Going (n : ℕ) (p : Progress) : Type 0 where

@@ -9,8 +9,9 @@ use borrow.Author.Tests.{le-leb}
 use lib.ListN.{length}
 use Rattle.octets.proofs.Order.{either}
 use Rattle.text.specs.Text.{ascii}
+use Rattle.runfile.specs.Start.{start}
 use Rattle.replaying.specs.Lines.{lineRoom}
-use Rattle.replaying.specs.Run.{Standing, standing, start, zeros, longest, next, nextText, ready, stepsLeft, textOver, textFrom, runText, chunkOver, afterOver, chunkText, chunkAfter}
+use Rattle.replaying.specs.Run.{Standing, standing, zeros, longest, next, nextText, ready, stepsLeft, textOver, textFrom, runText, chunkOver, afterOver, chunkText, chunkAfter}
 use Rattle.replaying.proofs.Steps.{Going, is-ready, before, falls, stays, fewer, too-long}
 use Rattle.replaying.proofs.Chunks.{step-after}
 

@@ -5,13 +5,13 @@ use mathlib.Core.List.{List, [], _++_}
 use lib.Dec.{eqb, ltb, leb}
 use lib.ListN.{length, drop, replicate}
 use Rattle.text.specs.Text.{ascii}
-use Rattle.intake.specs.State.{freshState}
-use Rattle.replaying.specs.Calls.{callAt, callSize}
+use Rattle.runfile.specs.Calls.{callAt, callSize}
+use Rattle.runfile.specs.Start.{start}
+use Rattle.runfile.specs.declared.Call.{Call}
+use Rattle.runfile.specs.declared.Progress.{Progress}
 use Rattle.replaying.specs.Running.{ran, callPool, callOut}
 use Rattle.replaying.specs.Lines.{lineOf, lastLines, lineRoom}
-use Rattle.replaying.specs.declared.Call.{Call}
 use Rattle.replaying.specs.declared.Ran.{Ran}
-use Rattle.replaying.specs.declared.Progress.{Progress}
 use Rattle.replaying.specs.declared.Chunk.{Chunk}
 
 -- where a run stands: how far it is, with the intake's state, and then the pool and the output
@@ -79,9 +79,6 @@ unfoldable pub textFrom : List ℕ → Standing → List ℕ
 textFrom s w = textOver (stepsLeft s w) s w
 
 -- a run starts fresh, with a pool of 16,384 zeros and an output of 131,072
-abbrev pub start : Progress
-start = record { at = 0; calls = 0; done = false; state = freshState }
-
 unfoldable pub zeros : ℕ → List ℕ
 zeros n = replicate n 0
 

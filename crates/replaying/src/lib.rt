@@ -1,9 +1,7 @@
 // Replaying a run file: each of its calls goes to the intake, and a line of text says what came of it. The text of a run can be long, so it is
 // made in chunks.
-mod adler;
 mod calls;
 mod lines;
-mod run_file;
 
 ghost use mathlib.Core.Path.{_≡_};
 ghost use mathlib.Core.Bool.{true};
@@ -11,25 +9,14 @@ ghost use Prim.Native.Nat.{_+_, _≤_};
 ghost use lib.ListN.{length};
 ghost use Rattle.octets.specs.Output.{put as puts};
 ghost use Rattle.replaying.specs.Lines.{Lined};
-ghost use Rattle.replaying.specs.Run.{standing, start, finished, ready, next, nextText, chunkText, chunkAfter, chunkOf};
+ghost use Rattle.replaying.specs.Run.{standing, finished, ready, next, nextText, chunkText, chunkAfter, chunkOf};
 use calls::run_call;
 use intake::Answer;
-use intake::State;
-use intake::fresh_start;
-use lane::Settings;
 use lines::put_last;
 use lines::put_told;
-use run_file::call_in;
-use run_file::call_size;
+use runfile::Progress;
+use state::State;
 use text::put;
-
-// A call of the run file. `space` is the output space that it asks for; `octets` are those of the packet. `Bad` is no whole call.
-pub enum Call {
-    Opening { lane: u8, settings: Settings },
-    Packet { lane: u8, space: u32, octets: u32 },
-    Closing { lane: u8, space: u32 },
-    Bad,
-}
 
 // What is told of a call: the refusal or 0, or the answer to a packet. `Stopped` where there is no whole call.
 pub enum Outcome {
@@ -39,17 +26,10 @@ pub enum Outcome {
     Stopped,
 }
 
-// What is told of a call, and the state after it.
+// What is told of a call, its octets in the run file, and the state after it.
 pub struct Ran {
     pub outcome: Outcome,
-    pub state: State,
-}
-
-// Where a run stands: the octets of whole calls behind it, their number, whether its text is whole, and the intake's state.
-pub struct Progress {
-    pub at: usize,
-    pub calls: usize,
-    pub done: bool,
+    pub octets: usize,
     pub state: State,
 }
 
@@ -64,19 +44,6 @@ const LONGEST: usize = 1048576;
 
 // Room for the text of any step (proofs/Short.antt).
 const LINE_ROOM: usize = 192;
-
-// Before the first chunk.
-pub fn begin() -> Progress
-    ensures { λ r. ⌜ r ≡ start ⌝ }
-{
-    let state = fresh_start();
-    Progress {
-        at: 0,
-        calls: 0,
-        done: false,
-        state,
-    }
-}
 
 // Whether a step can be taken in a run of n octets, with so much room for the text.
 fn is_ready(n: usize, room: usize, chunk: Chunk) -> bool
@@ -121,15 +88,13 @@ fn step(run: &[u8], chunk: Chunk, pool: &mut [u8], out: &mut [u8], text: &mut [u
         return stopped(p, end);
     }
     let at = p.at;
-    let ahead = &run[at..];
-    let call = call_in(ahead);
-    let size = call_size(call);
+    let before = p.state;
+    let ran = run_call(before, &run[at..], pool, out);
+    let size = ran.octets;
     if size == 0 {
         let end = put_last(text, to, run.len(), at, p.calls, pool);
         return stopped(p, end);
     }
-    let before = p.state;
-    let ran = run_call(before, ahead, call, pool, out);
     let told = ran.outcome;
     let state = ran.state;
     let octets = put_told(text, to, at, told, out);

@@ -2,15 +2,18 @@
 ghost use mathlib.Core.Path.{_≡_};
 ghost use Prim.Native.Nat.{_+_, _≤_};
 ghost use lib.ListN.{length, take};
+ghost use mathlib.Core.List.{[], _∷_};
 ghost use Rattle.octets.specs.Octets.{one};
+ghost use Rattle.text.specs.Text.{ascii};
 ghost use Rattle.text.specs.Written.{reached, written};
-ghost use Rattle.replaying.specs.Adler.{adler};
-ghost use Rattle.replaying.specs.Lines.{line, packetLine, recordLine, badLine, lineOf, endLine, lastLines, lineRoom, Lined};
+ghost use Rattle.adler.specs.Adler.{adler};
+ghost use Rattle.intake.specs.declared.Answer.the-variants.{Unit};
+ghost use Rattle.replaying.specs.Lines.{line, openLine, packetLine, recordLine, closeLine, badLine, lineOf, endLine, lastLines, lineRoom, Lined};
 use crate::Outcome;
-use crate::adler::adler32;
+use adler::adler32;
 use intake::Answer;
-use octets::be16_at;
-use octets::be32_at;
+use numbers::one_if;
+use record::front_record;
 use text::put;
 use text::put_decimal;
 use text::put_numbers;
@@ -36,11 +39,31 @@ fn put_line(
     put(text, to, b"\n")
 }
 
-// 1 for yes, 0 for no.
-fn one_if(b: bool) -> u64
-    ensures { λ r. ⌜ r ≡ one b ⌝ }
+// Puts the line of a call that was refused.
+fn put_refused(text: &mut [u8], to: usize, at: usize, call: &[u8], lane: u8, refusal: u8) -> usize
+    requires { ⌜ length (now call) ≤ 8 ⌝ }
+    requires { ⌜ to + lineRoom ≤ length (now text) ⌝ }
+    ensures { λ r. ⌜ Lined (now (text .entry)) to (line at (now (call .entry)) lane (ascii " refused") (refusal ∷ [])) (now (text .exit)) r ⌝ }
 {
-    if b { 1 } else { 0 }
+    put_line(text, to, at, call, lane, b" refused", &[refusal as u64])
+}
+
+// Puts the line of a packet that was taken and ended no unit.
+fn put_taken(
+    text: &mut [u8],
+    to: usize,
+    at: usize,
+    lane: u8,
+    word: &[u8],
+    missing: u16,
+    given_up: bool,
+) -> usize
+    requires { ⌜ length (now word) ≤ 8 ⌝ }
+    requires { ⌜ to + lineRoom ≤ length (now text) ⌝ }
+    ensures { λ r. ⌜ Lined (now (text .entry)) to (line at (ascii " packet") lane (now (word .entry)) (missing ∷ one «given_up» ∷ [])) (now (text .exit)) r ⌝ }
+{
+    let ns = [missing as u64, one_if(given_up)];
+    put_line(text, to, at, b" packet", lane, word, &ns)
 }
 
 // The Adler-32 of the first n octets of out.
@@ -54,55 +77,55 @@ fn adler_of(out: &[u8], n: usize) -> u32
     }
 }
 
+// Puts the line of a packet that ended a unit, which is the first octets of out.
+fn put_unit(
+    text: &mut [u8],
+    to: usize,
+    at: usize,
+    lane: u8,
+    octets: usize,
+    missing: u16,
+    given_up: bool,
+    out: &[u8],
+) -> usize
+    requires { ⌜ to + lineRoom ≤ length (now text) ⌝ }
+    ensures { λ r. ⌜ Lined (now (text .entry)) to (packetLine at lane (Unit octets missing «given_up») (now (out .entry))) (now (text .exit)) r ⌝ }
+{
+    let given_up = one_if(given_up);
+    let sum = adler_of(out, octets);
+    let ns = [missing as u64, given_up, octets as u64, sum as u64];
+    put_line(text, to, at, b" packet", lane, b" unit", &ns)
+}
+
 fn put_packet(text: &mut [u8], to: usize, at: usize, lane: u8, answer: Answer, out: &[u8]) -> usize
     requires { ⌜ to + lineRoom ≤ length (now text) ⌝ }
     ensures { λ r. ⌜ Lined (now (text .entry)) to (packetLine at lane answer (now (out .entry))) (now (text .exit)) r ⌝ }
 {
     match answer {
-        Answer::Refused(k) => put_line(text, to, at, b" packet", lane, b" refused", &[k as u64]),
+        Answer::Refused(k) => put_refused(text, to, at, b" packet", lane, k),
         Answer::Repeat => put_line(text, to, at, b" packet", lane, b" repeat", &[]),
         Answer::Stray { missing, given_up } => {
-            let broke = one_if(given_up);
-            put_line(
-                text,
-                to,
-                at,
-                b" packet",
-                lane,
-                b" stray",
-                &[missing as u64, broke],
-            )
+            put_taken(text, to, at, lane, b" stray", missing, given_up)
         }
         Answer::Held { missing, given_up } => {
-            let broke = one_if(given_up);
-            put_line(
-                text,
-                to,
-                at,
-                b" packet",
-                lane,
-                b" held",
-                &[missing as u64, broke],
-            )
+            put_taken(text, to, at, lane, b" held", missing, given_up)
         }
         Answer::Unit {
             octets,
             missing,
             given_up,
-        } => {
-            let broke = one_if(given_up);
-            let sum = adler_of(out, octets);
-            put_line(
-                text,
-                to,
-                at,
-                b" packet",
-                lane,
-                b" unit",
-                &[missing as u64, broke, octets as u64, sum as u64],
-            )
-        }
+        } => put_unit(text, to, at, lane, octets, missing, given_up, out),
     }
+}
+
+fn put_opened(text: &mut [u8], to: usize, at: usize, lane: u8, refusal: u8) -> usize
+    requires { ⌜ to + lineRoom ≤ length (now text) ⌝ }
+    ensures { λ r. ⌜ Lined (now (text .entry)) to (openLine at lane refusal) (now (text .exit)) r ⌝ }
+{
+    if refusal == 0 {
+        return put_line(text, to, at, b" open", lane, b" ok", &[]);
+    }
+    put_refused(text, to, at, b" open", lane, refusal)
 }
 
 // Puts the record at the front of out as the line of a closing.
@@ -110,28 +133,26 @@ fn put_record(text: &mut [u8], to: usize, at: usize, lane: u8, out: &[u8]) -> us
     requires { ⌜ to + lineRoom ≤ length (now text) ⌝ }
     ensures { λ r. ⌜ Lined (now (text .entry)) to (recordLine at lane (now (out .entry))) (now (text .exit)) r ⌝ }
 {
-    let station = be16_at(out, 0);
-    let apid = be16_at(out, 2);
-    let units = be32_at(out, 4);
-    let packets = be32_at(out, 8);
-    let missing = be32_at(out, 12);
-    let broken = be32_at(out, 16);
-    put_line(
-        text,
-        to,
-        at,
-        b" close",
-        lane,
-        b" record",
-        &[
-            station as u64,
-            apid as u64,
-            units as u64,
-            packets as u64,
-            missing as u64,
-            broken as u64,
-        ],
-    )
+    let r = front_record(out);
+    let ns = [
+        r.station as u64,
+        r.apid as u64,
+        r.units as u64,
+        r.packets as u64,
+        r.missing as u64,
+        r.broken as u64,
+    ];
+    put_line(text, to, at, b" close", lane, b" record", &ns)
+}
+
+fn put_closed(text: &mut [u8], to: usize, at: usize, lane: u8, refusal: u8, out: &[u8]) -> usize
+    requires { ⌜ to + lineRoom ≤ length (now text) ⌝ }
+    ensures { λ r. ⌜ Lined (now (text .entry)) to (closeLine at lane refusal (now (out .entry))) (now (text .exit)) r ⌝ }
+{
+    if refusal == 0 {
+        return put_record(text, to, at, lane, out);
+    }
+    put_refused(text, to, at, b" close", lane, refusal)
 }
 
 fn put_bad(text: &mut [u8], to: usize, at: usize) -> usize
@@ -177,27 +198,9 @@ pub(crate) fn put_told(text: &mut [u8], to: usize, at: usize, told: Outcome, out
     ensures { λ r. ⌜ Lined (now (text .entry)) to (lineOf at told (now (out .entry))) (now (text .exit)) r ⌝ }
 {
     match told {
-        Outcome::Opened { lane, refusal } => {
-            if refusal == 0 {
-                return put_line(text, to, at, b" open", lane, b" ok", &[]);
-            }
-            put_line(text, to, at, b" open", lane, b" refused", &[refusal as u64])
-        }
+        Outcome::Opened { lane, refusal } => put_opened(text, to, at, lane, refusal),
         Outcome::Taken { lane, answer } => put_packet(text, to, at, lane, answer, out),
-        Outcome::Closed { lane, refusal } => {
-            if refusal == 0 {
-                return put_record(text, to, at, lane, out);
-            }
-            put_line(
-                text,
-                to,
-                at,
-                b" close",
-                lane,
-                b" refused",
-                &[refusal as u64],
-            )
-        }
+        Outcome::Closed { lane, refusal } => put_closed(text, to, at, lane, refusal, out),
         Outcome::Stopped => put_bad(text, to, at),
     }
 }

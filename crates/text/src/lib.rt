@@ -7,7 +7,7 @@ ghost use lib.ListN.{length};
 ghost use Rattle.octets.specs.Output.{put as puts};
 ghost use Rattle.text.specs.Text.{decimal, number, numbers};
 ghost use Rattle.text.specs.Written.{reached, written};
-use octets::put_octets;
+use putting::put_octets;
 
 // Puts text into out from index at on.
 pub fn put(out: &mut [u8], at: usize, text: &[u8]) -> usize

@@ -5,12 +5,11 @@ use mathlib.Core.List.{List, [], _∷_}
 use native.Mathlib.Nat.{sub-zero, zero-add}
 use native.Mathlib.Omega.{arith}
 use borrow.Author.Tests.{eq-eqb, ne-eqb}
-use lib.ListN.{length, drop, length-drop, drop-of-length-le}
-use Rattle.reading.specs.Reading.{refusal, size}
-use Rattle.reading.specs.Causes.{no-octets}
-use Rattle.reading.proofs.Exactly.{gives}
+use lib.ListN.{length, drop, length-drop}
+use Rattle.reading.specs.Reading.{refusal}
 use Rattle.reading.proofs.Within.{within}
-use Rattle.walk.specs.Walk.{next, placesFrom, endFrom, places, end, stop}
+use Rattle.walk.specs.Walk.{next, nextOrHere, placesFrom, endFrom, places, end, stop}
+use Rattle.walk.proofs.Looked.{past-end}
 
 -- a loop over s stands at index at, with n packets behind it
 pub record Going (s : List ℕ) (at n : ℕ) : Type 0 where
@@ -19,12 +18,12 @@ pub record Going (s : List ℕ) (at n : ℕ) : Type 0 where
   pub same-end : end s ≡ endFrom (length s - n) s at
   pub same-count : length (places s) ≡ n + length (placesFrom (length s - n) s at)
 
--- a turn that reads z octets at index at
-pub record Turn (s : List ℕ) (at n z : ℕ) : Type 0 where
-  pub rises : at < at + z
-  pub within : at + z ≤ length s
-  pub going : Going s (at + z) (n + 1)
-  pub place : placesFrom (length s - n) s at ≡ at ∷ placesFrom (length s - (n + 1)) s (at + z)
+-- a turn that reads a packet at index at and goes on at index m
+pub record Turn (s : List ℕ) (at n m : ℕ) : Type 0 where
+  pub rises : at < m
+  pub within : m ≤ length s
+  pub going : Going s m (n + 1)
+  pub place : placesFrom (length s - n) s at ≡ at ∷ placesFrom (length s - (n + 1)) s m
 
 -- the walk stops at index at after n packets, with k
 pub record Stopped (s : List ℕ) (at n k : ℕ) : Type 0 where
@@ -37,10 +36,6 @@ module _ (s : List ℕ) where
   pub at-start : Going s 0 0
   unfolding end places
   at-start = record { behind = omega arith; inside = omega arith; same-end = rw sub-zero; same-count = rw (sub-zero, zero-add) }
-
-  -- nothing is read at the end
-  pub past-end : (at : ℕ) → length s ≤ at → refusal (drop at s) ≡ 1
-  past-end at h = gives (no-octets (ap length (drop-of-length-le s h)))
 
   -- a packet that is read has an octet at least, and lies within the octets
   pub moves : (at : ℕ) → at ≤ length s → refusal (drop at s) ≡ 0 → (at < next s at) × (next s at ≤ length s)
@@ -70,9 +65,9 @@ module _ (s : List ℕ) where
             same-count = omega (arith, g .same-count, ap length place);
           }
 
-      -- the turn as code has it, with z for the size that was read
-      pub turned : {z : ℕ} → z ≡ size (drop at s) → Turn s at n z
-      turned q = rw q (record { rises = moved .0; within = moved .1; going = goes-on; place = place })
+      -- the turn as code has it, with m for the next index that was found
+      pub turned : {m : ℕ} → m ≡ nextOrHere s at → Turn s at n m
+      turned q = rw (simp (eq-eqb _ _ e) at q) (record { rises = moved .0; within = moved .1; going = goes-on; place = place })
 
     -- no packet more is read
     module _ (u : refusal (drop at s) ≡ 0 → ⊥) where
@@ -104,5 +99,5 @@ module _ (s : List ℕ) where
     pub at-end : length s ≤ at → Stopped s at n 0
     unfolding stop
     at-end h =
-        let u : refusal (drop at s) ≡ 0 → ⊥ = λ e. omega (arith, past-end at h) in
+        let u : refusal (drop at s) ≡ 0 → ⊥ = λ e. omega (arith, past-end s at h) in
         stopped u (rw (here u) (simp (eq-eqb at (length s) (omega (arith, g .inside)))))

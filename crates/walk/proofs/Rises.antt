@@ -10,7 +10,8 @@ use lib.Dec.{eqb}
 use lib.ListN.{length, drop}
 use Rattle.reading.specs.Reading.{refusal}
 use Rattle.walk.specs.Walk.{readAt, next, placesFrom, endFrom, places, end, stop}
-use Rattle.walk.proofs.Going.{past-end, moves}
+use Rattle.walk.proofs.Looked.{past-end}
+use Rattle.walk.proofs.Going.{moves}
 
 -- packets are read at these places, one after another from index at to index e; each begins where the one before it ended
 abbrev pub Run : List ℕ → ℕ → List ℕ → ℕ → Type 0

@@ -1,9 +1,6 @@
 // Walks a run of packets that lie one after another.
 ghost use mathlib.Core.Path.{_≡_};
-ghost use lib.ListN.{drop};
-ghost use Rattle.reading.specs.Reading.{reading};
-ghost use Rattle.packet.specs.Told.{told};
-ghost use Rattle.walk.specs.Walk.{walked};
+ghost use Rattle.walk.specs.Walk.{Finds, walked};
 use packet::Packet;
 use packet::number_of;
 use packet::size_of;
@@ -16,14 +13,29 @@ pub struct Walked {
     pub refused: u8,
 }
 
-// What the packet at index at of s tells; past the end there is none.
-pub fn packet_at(s: &[u8], at: usize) -> Packet
-    ensures { λ r. ⌜ told r ≡ reading (drop at (now (s .entry))) ⌝ }
+// What lies at an index: the packet, the number of its refusal, or 0, and where the next packet begins.
+pub struct Found {
+    pub packet: Packet,
+    pub refused: u8,
+    pub next: usize,
+}
+
+// Looks at index at of s. Past the end there is no packet; where none is read, next is at.
+pub fn look_at(s: &[u8], at: usize) -> Found
+    ensures { λ r. ⌜ Finds (now (s .entry)) at r ⌝ }
 {
-    if at <= s.len() {
-        read_packet(&s[at..])
-    } else {
-        Packet::Refused(1)
+    if s.len() < at {
+        return Found {
+            packet: Packet::Refused(1),
+            refused: 1,
+            next: at,
+        };
+    }
+    let packet = read_packet(&s[at..]);
+    Found {
+        packet,
+        refused: number_of(packet),
+        next: at + size_of(packet),
     }
 }
 
@@ -41,16 +53,15 @@ pub fn walk(s: &[u8]) -> Walked
                 refused: 0,
             };
         }
-        let p = packet_at(s, at);
-        let refused = number_of(p);
-        if refused != 0 {
+        let found = look_at(s, at);
+        if found.refused != 0 {
             break Walked {
                 at,
                 packets,
-                refused,
+                refused: found.refused,
             };
         }
-        at += size_of(p);
+        at = found.next;
         packets += 1;
     }
 }

@@ -7,6 +7,7 @@ use native.Mathlib.Omega.{arith}
 use borrow.Author.Tests.{lt-ltb, le-ltb, eq-eqb, ne-eqb, eqb-true, not-false}
 use lib.Dec.{eqb, ltb}
 use Rattle.octets.proofs.Order.{either, neither}
+use Rattle.packet.specs.Encapsulation.{extended}
 use Rattle.writing.specs.Encapsulation.{shortest}
 
 module _ (p u n : ℕ) where
@@ -14,20 +15,20 @@ module _ (p u n : ℕ) where
   unfolding shortest
   of-long long = simp (ne-eqb n 0 (λ e. omega arith), le-ltb (2 + n) 256 (omega arith), and-false)
 
-  pub of-fields : n < 254 → not (eqb u 0) || eqb p 6 ≡ true → shortest p u n ≡ 4
+  pub of-fields : n < 254 → not (eqb u 0) || eqb p extended ≡ true → shortest p u n ≡ 4
   unfolding shortest
   of-fields short t =
       let four = lt-ltb (4 + n) 65536 (omega arith) in
       either (eqb u 0)
-      (λ e. let six = simp e at t in simp (e, six, ne-eqb p 0 (λ z. omega (arith, eqb-true p 6 six)), and-false, four))
+      (λ e. let six = simp e at t in simp (e, six, ne-eqb p 0 (λ z. omega (arith, eqb-true p extended six)), and-false, four))
       (λ f. simp (f, and-false, four))
 
-  pub of-short : n < 254 → not (eqb u 0) || eqb p 6 ≡ false → shortest p u n ≡ cond (eqb n 0 && eqb p 0) 1 2
+  pub of-short : n < 254 → not (eqb u 0) || eqb p extended ≡ false → shortest p u n ≡ cond (eqb n 0 && eqb p 0) 1 2
   unfolding shortest
   of-short short f =
-      let (user, other) = neither (not (eqb u 0)) (eqb p 6) f in
+      let (user, other) = neither (not (eqb u 0)) (eqb p extended) f in
       simp (not-false (eqb u 0) user, other, lt-ltb (2 + n) 256 (omega arith), and-true)
 
   -- and of no content
-  pub of-none : n ≡ 0 → not (eqb u 0) || eqb p 6 ≡ false → shortest p u n ≡ cond (eqb p 0) 1 2
+  pub of-none : n ≡ 0 → not (eqb u 0) || eqb p extended ≡ false → shortest p u n ≡ cond (eqb p 0) 1 2
   of-none none f = of-short (omega arith) f ∙ simp (eq-eqb n 0 none)

@@ -14,7 +14,7 @@ use Rattle.octets.specs.Octets.{octet, be16}
 use Rattle.octets.proofs.Order.{either}
 use Rattle.octets.proofs.Again.{read-two, read-four}
 use Rattle.packet.specs.Space.{version}
-use Rattle.packet.specs.Encapsulation.{limit, protocol, headerFor, encapHeader, second, user, extension, ccsds, sizeFor, encapSize, extendsAnother, misnames, misnamed, namesEmpty, emptyNamed}
+use Rattle.packet.specs.Encapsulation.{limit, extended, protocol, headerFor, encapHeader, second, user, extension, ccsds, sizeFor, encapSize, extendsAnother, misnames, misnamed, namesEmpty, emptyNamed}
 use Rattle.reading.specs.Reading.{header, size, refusal, fields, reading, content, contentAt}
 use Rattle.reading.specs.Causes.{Whole, encapsulation, EncapThere, EncapLong}
 use Rattle.reading.proofs.Exactly.{whole-gives, accepted}
@@ -31,7 +31,7 @@ pub record Legal (h p u x n : ℕ) : Type 0 where
   pub limited : h + n ≤ limit
 
 -- an extension needs protocol ID 6
-no-extension : (p x : ℕ) → extendsAnother p x ≡ false → (p ≡ 6 → ⊥) → x ≡ 0
+no-extension : (p x : ℕ) → extendsAnother p x ≡ false → (p ≡ extended → ⊥) → x ≡ 0
 no-extension p x e other = either (eqb x 0) (λ t. eqb-true _ _ t) (λ f. absurd (other (eqb-true _ _ (not-false _ (simp f at e)))))
 
 -- the fields of the first octet: version, protocol ID, length of length
@@ -90,7 +90,7 @@ module _ (p u x : ℕ) (given rest : List ℕ) where
       let none = no-extension p x (ok .extends) (λ z. omega (arith, c, z)) in
       by-header s p u x n 1 (f .0) (f .1) (ap headerFor (f .2)) (omega (arith, b, none)) refl (omega (arith, a))
 
-  same-2 : Legal 2 p u x n → u ≡ 0 → (p ≡ 6 → ⊥) → 2 + n < 256 → Same (packet 2 p u x given rest) 2 p u x n
+  same-2 : Legal 2 p u x n → u ≡ 0 → (p ≡ extended → ⊥) → 2 + n < 256 → Same (packet 2 p u x given rest) 2 p u x n
   unfolding encapOctetsWith headerOctets
   same-2 ok b c d =
       let s = packet 2 p u x given rest in
@@ -141,11 +141,11 @@ module _ (h p u x : ℕ) (given rest : List ℕ) (fit : Fit h p u (length given)
   named-right : misnamed s ≡ false
   named-right = same-misnames (back .header-is) (back .protocol-is) extension-is (back .ccsds-is) ∙ simp (ok .extends) (not-short fit)
     where
-      not-short : Fit h p u (length given) → (eqb p 6 && ltb h 4) || false || false ≡ false
+      not-short : Fit h p u (length given) → (eqb p extended && ltb h 4) || false || false ≡ false
       not-short (one e a b c) = rw c refl
-      not-short (two e a b c) = simp (ne-eqb p 6 b)
-      not-short (four e a) = rw e (none-holds (eqb p 6))
-      not-short (eight e) = rw e (none-holds (eqb p 6))
+      not-short (two e a b c) = simp (ne-eqb p extended b)
+      not-short (four e a) = rw e (none-holds (eqb p extended))
+      not-short (eight e) = rw e (none-holds (eqb p extended))
 
   not-empty : emptyNamed s ≡ false
   not-empty =

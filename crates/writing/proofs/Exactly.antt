@@ -7,7 +7,7 @@ use borrow.Author.Tests.{le-ltb, ltb-false}
 use lib.Dec.{eqb, ltb}
 use Rattle.octets.specs.Order.{Because}
 use Rattle.octets.proofs.Order.{either, neither, exactly}
-use Rattle.packet.specs.Space.{spaceHeader, flagsIdle}
+use Rattle.packet.specs.Space.{spaceHeader, longestData, flagsIdle}
 use Rattle.packet.specs.Encapsulation.{limit, extendsAnother, namesEmpty}
 use Rattle.writing.specs.Space.{spaceOver, wrongDataLength, spaceTests, spaceRefusal}
 use Rattle.writing.specs.Encapsulation.{shortest, encapOver, encapTests, encapRefusal}
@@ -23,7 +23,7 @@ module _ (t x a f c n room : ℕ) where
       either (spaceOver t x a f c) (λ o. omega (arith, simp o at e))
       (λ o. either (flagsIdle a x) (λ i. omega (arith, simp (o, i) at e))
       (λ i. either (wrongDataLength n) (λ d. omega (arith, simp (o, i, d) at e))
-      (λ d. let most = ltb-false 65536 n (neither (eqb n 0) (ltb 65536 n) d .1) in
+      (λ d. let most = ltb-false longestData n (neither (eqb n 0) (ltb longestData n) d .1) in
       omega (arith, simp (o, i, d, le-ltb room (spaceHeader + n) (omega (arith, most))) at e))))
 
 module _ (p u x n room : ℕ) where

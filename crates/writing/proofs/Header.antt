@@ -7,12 +7,13 @@ use borrow.Author.Tests.{ltb-true, eqb-true, eqb-false, not-true}
 use lib.Dec.{eqb, ltb}
 use lib.ListN.{length}
 use Rattle.octets.proofs.Order.{either, both}
+use Rattle.packet.specs.Encapsulation.{extended}
 use Rattle.writing.specs.Encapsulation.{shortest, headerOctets}
 
 -- a header of h octets has room for protocol ID p, user field u and the length of n octets of content
 pub data Fit (h p u n : ℕ) : Type 0 where
   one : h ≡ 1 → n ≡ 0 → u ≡ 0 → p ≡ 0 → Fit h p u n
-  two : h ≡ 2 → u ≡ 0 → (p ≡ 6 → ⊥) → 2 + n < 256 → Fit h p u n
+  two : h ≡ 2 → u ≡ 0 → (p ≡ extended → ⊥) → 2 + n < 256 → Fit h p u n
   four : h ≡ 4 → 4 + n < 65536 → Fit h p u n
   eight : h ≡ 8 → Fit h p u n
 
@@ -24,9 +25,9 @@ module _ (p u n : ℕ) where
       (λ t. let (nu, p′) = both (eqb n 0 && eqb u 0) (eqb p 0) t in
       let (n′, u′) = both (eqb n 0) (eqb u 0) nu in
       one (simp t) (eqb-true _ _ n′) (eqb-true _ _ u′) (eqb-true _ _ p′))
-      (λ f. either (eqb u 0 && not (eqb p 6) && ltb (2 + n) 256)
-      (λ t. let (up, n′) = both (eqb u 0 && not (eqb p 6)) (ltb (2 + n) 256) t in
-      let (u′, p′) = both (eqb u 0) (not (eqb p 6)) up in
+      (λ f. either (eqb u 0 && not (eqb p extended) && ltb (2 + n) 256)
+      (λ t. let (up, n′) = both (eqb u 0 && not (eqb p extended)) (ltb (2 + n) 256) t in
+      let (u′, p′) = both (eqb u 0) (not (eqb p extended)) up in
       two (simp (f, t)) (eqb-true _ _ u′) (eqb-false _ _ (not-true _ p′)) (ltb-true _ _ n′))
       (λ g. either (ltb (4 + n) 65536) (λ t. four (simp (f, g, t)) (ltb-true _ _ t)) (λ k. eight (simp (f, g, k)))))
 

@@ -10,7 +10,7 @@ use lib.Dec.{eqb, ltb}
 use lib.ListN.{length}
 use Rattle.octets.specs.Octets.{octet, be16, AreOctets}
 use Rattle.octets.proofs.Order.{either, neither}
-use Rattle.packet.specs.Encapsulation.{limit, protocol, encapHeader, user, extension, ccsds, sizeFor, encapSize, extendsAnother}
+use Rattle.packet.specs.Encapsulation.{limit, extended, protocol, encapHeader, user, extension, ccsds, sizeFor, encapSize, extendsAnother}
 use Rattle.reading.specs.Reading.{reading, content, contentAt}
 use Rattle.reading.specs.Causes.{Whole, space, encapsulation, EncapGood}
 use Rattle.packet.specs.declared.Packet.the-variants.{Encapsulation}
@@ -30,17 +30,17 @@ module _ (p u n : ℕ) where
   unfolding shortest
   at-most-1 a b c = simp (eq-eqb n 0 a, eq-eqb u 0 b, eq-eqb p 0 c) (omega arith)
 
-  at-most-2 : u ≡ 0 → (p ≡ 6 → ⊥) → 2 + n < 256 → shortest p u n ≤ 2
+  at-most-2 : u ≡ 0 → (p ≡ extended → ⊥) → 2 + n < 256 → shortest p u n ≤ 2
   unfolding shortest
   at-most-2 b c d =
       either (eqb n 0 && eqb u 0 && eqb p 0) (λ t. simp t (omega arith))
-      (λ f. simp f (simp (eq-eqb u 0 b, ne-eqb p 6 c, lt-ltb (2 + n) 256 d) (omega arith)))
+      (λ f. simp f (simp (eq-eqb u 0 b, ne-eqb p extended c, lt-ltb (2 + n) 256 d) (omega arith)))
 
   at-most-4 : 4 + n < 65536 → shortest p u n ≤ 4
   unfolding shortest
   at-most-4 d =
       either (eqb n 0 && eqb u 0 && eqb p 0) (λ t. simp t (omega arith))
-      (λ f. either (eqb u 0 && not (eqb p 6) && ltb (2 + n) 256) (λ t. simp (f, t) (omega arith))
+      (λ f. either (eqb u 0 && not (eqb p extended) && ltb (2 + n) 256) (λ t. simp (f, t) (omega arith))
       (λ g. simp (f, g, lt-ltb (4 + n) 65536 d) (omega arith)))
 
 -- ---- a packet that is read
@@ -54,7 +54,7 @@ module _ (s : List ℕ) (small : AreOctets s) (good : EncapGood s) where
   no-user : {h : ℕ} → encapHeader s ≡ h → ltb h 4 ≡ true → user s ≡ 0
   no-user {h} e t = ap (λ k. cond (ltb k 4) 0 (octet s 1) / 16 % 16) e ∙ simp t
 
-  not-6 : {h : ℕ} → encapHeader s ≡ h → ltb h 4 ≡ true → protocol s ≡ 6 → ⊥
+  not-6 : {h : ℕ} → encapHeader s ≡ h → ltb h 4 ≡ true → protocol s ≡ extended → ⊥
   not-6 {h} e t six =
       let a = neither (eqb (protocol s) 6 && ltb (encapHeader s) 4 || extendsAnother (protocol s) (extension s)) (not (eqb (ccsds s) 0)) (good .0 .0 .0 .1) in
       let b = neither (eqb (protocol s) 6 && ltb (encapHeader s) 4) (extendsAnother (protocol s) (extension s)) (a .0) in

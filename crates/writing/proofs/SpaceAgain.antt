@@ -10,7 +10,7 @@ use lib.ListN.{length, take, drop, length-append, length-drop}
 use lib.Seq.{take-append-seam, take-add, length-take-le}
 use Rattle.octets.specs.Octets.{octet, be16, AreOctets}
 use Rattle.octets.proofs.Again.{two, split}
-use Rattle.packet.specs.Space.{version, packetType, secondary, apid, flags, count, spaceHeader, dataOctets, spaceSize, flaggedIdle}
+use Rattle.packet.specs.Space.{version, packetType, secondary, apids, counts, apid, flags, count, spaceHeader, dataOctets, spaceSize, flaggedIdle}
 use Rattle.reading.specs.Reading.{header, size, refusal, fields, reading, content, contentAt}
 use Rattle.reading.specs.Causes.{Whole, space, SpaceGood}
 use Rattle.reading.proofs.Exactly.{whole-gives, accepted}
@@ -25,7 +25,7 @@ module _ (t x a f c : ℕ) (field rest : List ℕ) (room : ℕ) (ok : Fine t x a
   -- each field comes back
   pub record Same : Type 0 where
     pub version-0 : version s ≡ 0
-    pub kind : packetType s ≡ t
+    pub type-is : packetType s ≡ t
     pub second : secondary s ≡ x
     pub id : apid s ≡ a
     pub flag : flags s ≡ f
@@ -35,10 +35,10 @@ module _ (t x a f c : ℕ) (field rest : List ℕ) (room : ℕ) (ok : Fine t x a
   same : Same
   unfolding spaceOctets
   same = record {
-    version-0 = omega (arith, ok .kind, ok .secondary, ok .apid);
-    kind = omega (arith, ok .kind, ok .secondary, ok .apid);
-    second = omega (arith, ok .kind, ok .secondary, ok .apid);
-    id = omega (arith, ok .kind, ok .secondary, ok .apid);
+    version-0 = omega (arith, ok .packet-type, ok .secondary, ok .apid);
+    type-is = omega (arith, ok .packet-type, ok .secondary, ok .apid);
+    second = omega (arith, ok .packet-type, ok .secondary, ok .apid);
+    id = omega (arith, ok .packet-type, ok .secondary, ok .apid);
     flag = omega (arith, ok .flags, ok .count);
     number = omega (arith, ok .flags, ok .count);
     octets = omega (arith, ok .some, ok .most);
@@ -54,7 +54,7 @@ module _ (t x a f c : ℕ) (field rest : List ℕ) (room : ℕ) (ok : Fine t x a
 
   same-fields : fields s ≡ 0 ∷ t ∷ x ∷ a ∷ f ∷ c ∷ length field ∷ []
   unfolding fields
-  same-fields = let e = same in simp (eq-eqb (version s) 0 (e .version-0)) (rw (e .kind, e .second, e .id, e .flag, e .number, e .octets))
+  same-fields = let e = same in simp (eq-eqb (version s) 0 (e .version-0)) (rw (e .type-is, e .second, e .id, e .flag, e .number, e .octets))
 
   after-header : take (length field) (drop spaceHeader s) ≡ field
   unfolding spaceOctets
@@ -96,8 +96,8 @@ module _ (s : List ℕ) (small : AreOctets s) (good : SpaceGood s) (h : spaceSiz
       let high : octet s 0 ≡ packetType s * 16 + secondary s * 8 + octet s 0 % 8 =
       omega (arith, z, good .0 .0 .1, split (octet s 0) 8 2, split (octet s 0) 16 2, split (octet s 0) 32 8) in
       let low : apid s ≡ octet s 0 % 8 * 256 + octet s 1 = omega (arith, z, y) in
-      let w1 : packetType s * 4096 + secondary s * 2048 + apid s ≡ be16 s 0 = omega (arith, high, low) in
-      let w2 : flags s * 16384 + count s ≡ be16 s 2 = omega (arith, u, v) in
+      let w1 : (packetType s * 2 + secondary s) * apids + apid s ≡ be16 s 0 = omega (arith, high, low) in
+      let w2 : flags s * counts + count s ≡ be16 s 2 = omega (arith, u, v) in
       let w3 : length data-field - 1 ≡ be16 s 4 = omega (arith, field-octets) in
       let p1 = two s small [] 0 _ (omega (arith, h)) w1 refl in
       let p2 = two s small _ 2 _ (omega (arith, h)) w2 p1 in
@@ -118,7 +118,7 @@ module _ (s : List ℕ) (small : AreOctets s) (good : SpaceGood s) (h : spaceSiz
       let most = small 4 in
       let last = small 5 in
       record {
-        kind = omega arith;
+        packet-type = omega arith;
         secondary = omega arith;
         apid = omega arith;
         flags = omega arith;

@@ -8,20 +8,20 @@ use borrow.Author.Tests.{lt-leb, le-ltb, ne-eqb, leb-false, ltb-false, eqb-false
 use lib.Dec.{eqb, ltb}
 use lib.ListN.{length}
 use Rattle.octets.proofs.Order.{either, neither}
-use Rattle.packet.specs.Space.{spaceHeader, flagsIdle}
+use Rattle.packet.specs.Space.{apids, counts, spaceHeader, longestData, flagsIdle}
 use Rattle.writing.specs.Fields.{over}
 use Rattle.writing.specs.Space.{spaceOctets, spaceOver, wrongDataLength, spaceRefusal}
 
 module _ (t x a f c n room : ℕ) where
   pub record Fine : Type 0 where
-    pub kind : t < 2
+    pub packet-type : t < 2
     pub secondary : x < 2
-    pub apid : a < 2048
+    pub apid : a < apids
     pub flags : f < 4
-    pub count : c < 16384
+    pub count : c < counts
     pub not-idle : flagsIdle a x ≡ false
     pub some : 0 < n
-    pub most : n ≤ 65536
+    pub most : n ≤ longestData
     pub fits : spaceHeader + n ≤ room
 
   -- the tests that failed, as facts
@@ -31,16 +31,16 @@ module _ (t x a f c n room : ℕ) where
       let (o3, f′) = neither (over 1 t || over 1 x || over 11 a) (over 2 f) o4 in
       let (o2, a′) = neither (over 1 t || over 1 x) (over 11 a) o3 in
       let (t′, x′) = neither (over 1 t) (over 1 x) o2 in
-      let (none, most) = neither (eqb n 0) (ltb 65536 n) empty in
+      let (none, most) = neither (eqb n 0) (ltb longestData n) empty in
       record {
-        kind = leb-false 2 t t′;
+        packet-type = leb-false 2 t t′;
         secondary = leb-false 2 x x′;
-        apid = leb-false 2048 a a′;
+        apid = leb-false apids a a′;
         flags = leb-false 4 f f′;
-        count = leb-false 16384 c c′;
+        count = leb-false counts c c′;
         not-idle = idle;
         some = omega (arith, eqb-false n 0 none);
-        most = ltb-false 65536 n most;
+        most = ltb-false longestData n most;
         fits = fits;
       }
 
@@ -57,7 +57,7 @@ module _ (t x a f c n room : ℕ) where
   pub accepts : Fine → spaceRefusal t x a f c n room ≡ 0
   unfolding spaceRefusal
   accepts ok =
-      simp (lt-leb 2 t (ok .kind), lt-leb 2 x (ok .secondary), lt-leb 2048 a (ok .apid), lt-leb 4 f (ok .flags), lt-leb 16384 c (ok .count), ok .not-idle, ne-eqb n 0 (λ z. omega (arith, ok .some)), le-ltb 65536 n (ok .most), le-ltb room (spaceHeader + n) (ok .fits))
+      simp (lt-leb 2 t (ok .packet-type), lt-leb 2 x (ok .secondary), lt-leb apids a (ok .apid), lt-leb 4 f (ok .flags), lt-leb counts c (ok .count), ok .not-idle, ne-eqb n 0 (λ z. omega (arith, ok .some)), le-ltb longestData n (ok .most), le-ltb room (spaceHeader + n) (ok .fits))
 
 -- the packet's octets
 pub space-size : (t x a f c : ℕ) (field : List ℕ) → length (spaceOctets t x a f c field) ≡ spaceHeader + length field

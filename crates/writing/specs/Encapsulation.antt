@@ -7,7 +7,7 @@ use lib.Dec.{eqb, ltb}
 use Rattle.octets.specs.Octets.{octets2, octets4}
 use Rattle.octets.specs.Order.{Test, _gives_, first}
 use Rattle.octets.specs.Output.{writerTells, outputAfter}
-use Rattle.packet.specs.Encapsulation.{limit, extendsAnother, namesEmpty}
+use Rattle.packet.specs.Encapsulation.{limit, extended, extendsAnother, namesEmpty}
 use Rattle.writing.specs.Fields.{over}
 
 -- the shortest header that can carry the fields and n octets of content: 1 octet only for no content, user 0 and protocol 0; at least 4
@@ -17,7 +17,7 @@ unfoldable pub shortest : ℕ → ℕ → ℕ → ℕ
 shortest p u n =
     first 8
     ((eqb n 0 && eqb u 0 && eqb p 0 gives 1)
-    ∷ (eqb u 0 && not (eqb p 6) && ltb (2 + n) (2 ^ 8) gives 2)
+    ∷ (eqb u 0 && not (eqb p extended) && ltb (2 + n) (2 ^ 8) gives 2)
     ∷ (ltb (4 + n) (2 ^ 16) gives 4)
     ∷ [])
 

@@ -7,20 +7,20 @@ use lib.Dec.{eqb, ltb}
 use Rattle.octets.specs.Octets.{octets2}
 use Rattle.octets.specs.Order.{Test, _gives_, first}
 use Rattle.octets.specs.Output.{writerTells, outputAfter}
-use Rattle.packet.specs.Space.{spaceHeader, flagsIdle}
+use Rattle.packet.specs.Space.{apids, counts, spaceHeader, longestData, flagsIdle}
 use Rattle.writing.specs.Fields.{over}
 
 -- six header octets: version 3 bits (000), type 1, secondary header flag 1, APID 11, sequence flags 2, count 14, length 16: the octets of the
 -- data field minus 1
 unfoldable pub spaceOctets : ℕ → ℕ → ℕ → ℕ → ℕ → List ℕ → List ℕ
-spaceOctets t x a f c field = octets2 (t * 4096 + x * 2048 + a) ++ octets2 (f * 16384 + c) ++ octets2 (length field - 1) ++ field
+spaceOctets t x a f c field = octets2 ((t * 2 + x) * apids + a) ++ octets2 (f * counts + c) ++ octets2 (length field - 1) ++ field
 
 abbrev pub spaceOver : ℕ → ℕ → ℕ → ℕ → ℕ → Bool
 spaceOver t x a f c = over 1 t || over 1 x || over 11 a || over 2 f || over 14 c
 
 -- data to write: none, or over 65,536
 abbrev pub wrongDataLength : ℕ → Bool
-wrongDataLength n = eqb n 0 || ltb 65536 n
+wrongDataLength n = eqb n 0 || ltb longestData n
 
 -- 8, then 3, then 10, 9: for n octets of data and an output of room octets
 abbrev pub spaceTests : ℕ → ℕ → ℕ → ℕ → ℕ → ℕ → ℕ → List (Test ℕ)

@@ -5,10 +5,13 @@ ghost use lib.ListN.{length};
 ghost use Rattle.octets.specs.Output.{put as puts};
 ghost use Rattle.packet.specs.Encapsulation.{limit};
 ghost use Rattle.writing.specs.Encapsulation.{shortest, headerOctets, encapRefusal};
-use octets::put_be16;
-use octets::put_be32;
-use octets::put_octet;
 use packet::LIMIT;
+use putting::put_be16;
+use putting::put_be32;
+use putting::put_octet;
+
+// The writer is given 32 bits for each field.
+const EXTENDED: u32 = packet::EXTENDED as u32;
 
 // The octets of the shortest header that can carry the fields and n octets of content.
 pub(crate) fn shortest_header(protocol: u32, user: u32, n: usize) -> usize
@@ -18,7 +21,7 @@ pub(crate) fn shortest_header(protocol: u32, user: u32, n: usize) -> usize
     if 254 <= n {
         return if n < 65532 { 4 } else { 8 };
     }
-    if (user != 0) | (protocol == 6) {
+    if (user != 0) | (protocol == EXTENDED) {
         return 4;
     }
     // One after the other: joined, both tests would be made for every packet, and few are empty.
@@ -43,7 +46,7 @@ pub(crate) fn refusal(
     if (8 <= protocol) | (16 <= user) | (16 <= extension) {
         return 8;
     }
-    if (extension != 0) & (protocol != 6) {
+    if (extension != 0) & (protocol != EXTENDED) {
         return 7;
     }
     if (n == 0) & (protocol != 0) {

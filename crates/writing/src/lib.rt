@@ -8,8 +8,8 @@ ghost use Rattle.writing.specs.Encapsulation.{encapTold, encapAfter};
 ghost use Rattle.writing.specs.Told.{told};
 use encapsulation::put_header;
 use encapsulation::shortest_header;
-use octets::put_octets;
 use packet::SPACE_HEADER;
+use putting::put_octets;
 use space::put_space;
 
 // What writing gives: the octets written, or the refusal.
@@ -18,10 +18,10 @@ pub enum Written {
     Refused(u8),
 }
 
-// Writes a Space Packet; kind is its type, 0 telemetry or 1 telecommand. Every parameter is wider than its field, so that no value is cut to it
+// Writes a Space Packet, of type 0 (telemetry) or 1 (telecommand). Every parameter is wider than its field, so that no value is cut to it
 // unseen: over its width it is refused 8.
 pub fn write_space(
-    kind: u32,
+    packet_type: u32,
     secondary: u32,
     apid: u32,
     flags: u32,
@@ -29,14 +29,22 @@ pub fn write_space(
     field: &[u8],
     out: &mut [u8],
 ) -> Written
-    ensures { λ r. ⌜ told r ≡ spaceTold kind secondary apid flags count (now (field .entry)) (now (out .entry)) ⌝ }
-    ensures { λ _. ⌜ now (out .exit) ≡ spaceAfter kind secondary apid flags count (now (field .entry)) (now (out .entry)) ⌝ }
+    ensures { λ r. ⌜ told r ≡ spaceTold «packet_type» secondary apid flags count (now (field .entry)) (now (out .entry)) ⌝ }
+    ensures { λ _. ⌜ now (out .exit) ≡ spaceAfter «packet_type» secondary apid flags count (now (field .entry)) (now (out .entry)) ⌝ }
 {
-    let refusal = space::refusal(kind, secondary, apid, flags, count, field.len(), out.len());
+    let refusal = space::refusal(
+        packet_type,
+        secondary,
+        apid,
+        flags,
+        count,
+        field.len(),
+        out.len(),
+    );
     if refusal != 0 {
         return Written::Refused(refusal);
     }
-    put_space(out, kind, secondary, apid, flags, count, field);
+    put_space(out, packet_type, secondary, apid, flags, count, field);
     Written::Octets(SPACE_HEADER + field.len())
 }
 

@@ -9,7 +9,7 @@ mod both_ways;
 mod checker;
 mod functions;
 mod inputs;
-mod lanes;
+pub mod lanes;
 mod library;
 mod memory;
 #[cfg(test)]

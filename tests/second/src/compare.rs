@@ -17,9 +17,23 @@ pub fn compare_listings(program: &[OsString]) -> Comparison {
     compare(program, &inputs::all(), listing)
 }
 
-/// Compares with a program that prints the cases and those about its input.
+/// Compares with a program that prints cases, on those of reading and walking
+/// each input. A text holds as many of them as may be.
 pub fn compare_cases(program: &[OsString]) -> Comparison {
-    compare(program, &inputs::short(), cases::text)
+    let inputs = inputs::short();
+    let mut texts = Inputs::from([Vec::new()]);
+    for input in &inputs {
+        let octets = hex::after_blanks(input);
+        let lines = format!("read{octets}\nwalk{octets}\n").into_bytes();
+        match texts.last_mut() {
+            Some(text) if text.len() + lines.len() <= cases::LONGEST => text.extend(lines),
+            _ => texts.push(lines),
+        }
+    }
+    compare(program, &texts, |text| {
+        cases::text(text).expect("every line is a case")
+    })?;
+    Ok(inputs.len())
 }
 
 fn compare(program: &[OsString], inputs: &Inputs, expect: fn(&[u8]) -> String) -> Comparison {

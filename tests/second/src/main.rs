@@ -4,9 +4,8 @@
 //!
 //! - `second list` lists standard input;
 //! - `second replay` replays the run file on standard input;
-//! - `second cases` prints the fixed cases (reading, listing, writing, records,
-//!   lanes) with their answers; or only those about standard input, if it holds
-//!   something;
+//! - `second cases` prints the cases that stand on standard input (reading,
+//!   walking, writing, records, lanes) with their answers;
 //! - `second credit STATION:APID:SECONDARY:SHARE:CAP:FILE...` opens one to eight
 //!   lanes, lane 0 first, takes one packet of each lane's file in turn until all
 //!   files are used up (what can't be read ends a file), closes the lanes, and
@@ -38,7 +37,7 @@ fn main() -> ExitCode {
     match (command, words.len()) {
         (Some("list"), 1) => ending(answer(lister::listing, lister::LONGEST_INPUT)),
         (Some("replay"), 1) => ending(answer(replay::text, replay::LONGEST_RUN)),
-        (Some("cases"), 1) => ending(answer(cases::text, cases::LONGEST_CASE)),
+        (Some("cases"), 1) => ending(cases_told()),
         (Some("credit"), 2..=9) => ending(credit::records(&words[1..])),
         (Some("compare"), 2..) => {
             ending(compared(compare::compare_listings(&words[1..]), "listed"))
@@ -57,6 +56,11 @@ fn main() -> ExitCode {
 fn answer(text: fn(&[u8]) -> String, longest: usize) -> Result<String, String> {
     let octets = input(longest).map_err(|error| format!("second: {error}"))?;
     Ok(text(&octets))
+}
+
+fn cases_told() -> Result<String, String> {
+    let octets = input(cases::LONGEST).map_err(|error| format!("second: {error}"))?;
+    cases::text(&octets)
 }
 
 /// Standard input, kept only as far as is needed to see that it is longer than

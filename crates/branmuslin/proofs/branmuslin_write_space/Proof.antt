@@ -14,8 +14,8 @@ returns c =
     let wrote = c .before .before .before .before .before .write-space in
     let a = c .before .before .before .before .before .before .before .before .before .args in
     let ends =
-    told-octets (spaceRefusal (a .kind) (a .secondary) (a .apid) (a .flags) (a .count) (length (now (a .field))) (length (now (a .out))))
-    (spaceOctets (a .kind) (a .secondary) (a .apid) (a .flags) (a .count) (now (a .field))) (now (a .written)) _
+    told-octets (spaceRefusal (a .packet-type) (a .secondary) (a .apid) (a .flags) (a .count) (length (now (a .field))) (length (now (a .out))))
+    (spaceOctets (a .packet-type) (a .secondary) (a .apid) (a .flags) (a .count) (now (a .field))) (now (a .written)) _
     (sym (ap told (c .before .w .given .1)) ∙ wrote .ensures .0) in
     (ends .0, (wrote .ensures .1, ends .1))
 
@@ -24,8 +24,8 @@ returns-2 c =
     let wrote = c .before .before .before .before .before .write-space in
     let a = c .before .before .before .before .before .before .before .before .before .args in
     let ends =
-    told-refusal (spaceRefusal (a .kind) (a .secondary) (a .apid) (a .flags) (a .count) (length (now (a .field))) (length (now (a .out))))
-    (spaceOctets (a .kind) (a .secondary) (a .apid) (a .flags) (a .count) (now (a .field))) (now (a .written)) _
+    told-refusal (spaceRefusal (a .packet-type) (a .secondary) (a .apid) (a .flags) (a .count) (length (now (a .field))) (length (now (a .out))))
+    (spaceOctets (a .packet-type) (a .secondary) (a .apid) (a .flags) (a .count) (now (a .field))) (now (a .written)) _
     (sym (ap told (c .before .w2 .given .1)) ∙ wrote .ensures .0) in
     (ends .0, (wrote .ensures .1, ends .1))
 

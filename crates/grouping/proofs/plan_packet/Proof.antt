@@ -11,13 +11,19 @@ returns-2 : tie.Need-returns-2
 returns-2 c = not-space _ _ _ (c .before .before .before .before .if1 .left) _ (c .before .before .before .read-packet .ensures) (c .before .before .match .keys2) _ (c .before .other-refusal .ensures) _ (c .refuse2 .ensures)
 
 returns-3 : tie.Need-returns-3
-returns-3 c = faulty _ _ _ (c .before .before .before .before .before .before .before .if1 .left) _ (c .before .before .before .before .before .before .read-packet .ensures) _ _ _ _ _ _ (c .before .before .before .before .p .given .1) _ (c .before .before .fault-of .ensures) (c .before .if2 .taken) _ (c .refuse3 .ensures)
+returns-3 c =
+    let f = c .before .before in
+    let p = f .before .before .before in
+    faulty _ _ _ (p .before .before .before .if1 .left) _ (p .before .before .read-packet .ensures) _ _ _ _ _ _ (p .p .given .1) _ (f .fault-of .ensures) (c .before .if2 .taken) _ (c .refuse3 .ensures)
 
 sub-plan-accepted : tie.Need-sub-plan-accepted
 sub-plan-accepted c = long-enough _ _ _ _ _ _ _ (c .before .before .fault-of .ensures) (c .before .if2 .left)
 
 returns-4 : tie.Need-returns-4
-returns-4 c = fine _ _ _ (c .before .before .before .before .before .before .before .before .if1 .left) _ (c .before .before .before .before .before .before .before .read-packet .ensures) _ _ _ _ _ _ (c .before .before .before .before .before .p .given .1) _ (c .before .before .before .fault-of .ensures) (c .before .before .if2 .left) _ (c .plan-accepted .ensures)
+returns-4 c =
+    let f = c .before .before .before in
+    let p = f .before .before .before in
+    fine _ _ _ (p .before .before .before .if1 .left) _ (p .before .before .read-packet .ensures) _ _ _ _ _ _ (p .p .given .1) _ (f .fault-of .ensures) (c .before .before .if2 .left) _ (c .plan-accepted .ensures)
 
 pub plan-packet-spec : {M : Type 1} → statement M
 plan-packet-spec =

@@ -3,7 +3,7 @@ use mathlib.Core.Path.{sym, ap, _∙_}
 use borrow.Author.Tests.{not-false}
 use denote.Ref.{now}
 use Rattle.lane.specs.declared.Lane.{Lane}
-use Rattle.intake.proofs.Soundness.{then-sound, lane-fine, opened-small}
+use Rattle.state.proofs.Soundness.{then-sound, lane-fine, opened-small}
 use Rattle.intake.proofs.Closed.{not-sound, not-open, refuses, closes}
 use borrow.Author.Needs.{needs}
 use Rattle.intake.proofs.close_lane.Statement.{statement}
@@ -43,7 +43,7 @@ returns-4 c =
     let asked = found .before .before .before in
     let s = asked .before .before .before .args in
     closes (s .s) (s .lane) _ (now (s .out)) _ (asked .is-unsound .ensures) (found .before .before .if1 .left) _ (found .lane-at .ensures .0) (credited .before .if2 .left) _ (credited .credit-of .ensures)
-    _ (written .write-record .ensures .0) _ (chosen .enum-told .given .1) _ (written .write-record .ensures .1) _ (c .before .release .ensures) _ (c .with-lane .ensures)
+    _ (written .write-record .ensures .0) _ (chosen .enum-told .given .1) _ (written .write-record .ensures .1) _ (c .before .release .ensures) _ (c .with-one .ensures)
 
 pub close-lane-spec : {M : Type 1} → statement M
 close-lane-spec =

@@ -17,4 +17,4 @@ returns-2 c =
     settled-step (s .s) (s .lane) (now (s .octets)) (s .size) (s .room) _ (asked .before .before .pre) _ (asked .is-unsound .ensures) (c .before .before .before .if1 .left) _ (c .before .plan-packet .ensures) _ (c .settled .ensures)
 
 pub step-of-spec : {M : Type 1} → statement M
-step-of-spec = tie.close (tie.spec (λ c κs. search needs) returns (λ c κs. search needs) (λ c κs. search needs) returns-2)
+step-of-spec = tie.close (tie.spec (λ c κs. search needs) returns (λ c κs. search needs) (λ c κs. c .before .before .before .before .before .pre) returns-2)

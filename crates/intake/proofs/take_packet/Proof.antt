@@ -3,7 +3,7 @@ use mathlib.Core.Path.{_≡_, refl, _∙_}
 use mathlib.Core.Logic.{⊎-elim}
 use native.Mathlib.Omega.{arith}
 use denote.Ref.{now}
-use Rattle.intake.specs.State.{laneAt}
+use Rattle.state.specs.State.{laneAt}
 use Rattle.intake.specs.After.{withLane}
 use Rattle.intake.proofs.Given.{ready-step, as-promised, answer-told, no-such-lane, nothing-stored}
 use borrow.Author.Needs.{needs}

@@ -16,24 +16,24 @@ returns c =
     let start = c .before .before .before .before in
     let a = start .args in
     let number = c .before .refusal .result in
-    refused (spaceRefusal (a .kind) (a .secondary) (a .apid) (a .flags) (a .count) (length (now (a .field))) (length (now (a .out))))
-    (spaceOctets (a .kind) (a .secondary) (a .apid) (a .flags) (a .count) (now (a .field))) (now (a .out)) number (omega (arith, c .if1 .taken)) (sym (c .before .refusal .ensures))
+    refused (spaceRefusal (a .packet-type) (a .secondary) (a .apid) (a .flags) (a .count) (length (now (a .field))) (length (now (a .out))))
+    (spaceOctets (a .packet-type) (a .secondary) (a .apid) (a .flags) (a .count) (now (a .field))) (now (a .out)) number (omega (arith, c .if1 .taken)) (sym (c .before .refusal .ensures))
 
-not-refused : (c : tie.Else1) → (let a = c .before .before .before .before .args in Fine (a .kind) (a .secondary) (a .apid) (a .flags) (a .count) (length (now (a .field))) (length (now (a .out))))
+not-refused : (c : tie.Else1) → (let a = c .before .before .before .before .args in Fine (a .packet-type) (a .secondary) (a .apid) (a .flags) (a .count) (length (now (a .field))) (length (now (a .out))))
 not-refused c =
     let a = c .before .before .before .before .args in
-    fine (a .kind) (a .secondary) (a .apid) (a .flags) (a .count) (length (now (a .field))) (length (now (a .out))) (sym (c .before .refusal .ensures) ∙ c .if1 .left)
+    fine (a .packet-type) (a .secondary) (a .apid) (a .flags) (a .count) (length (now (a .field))) (length (now (a .out))) (sym (c .before .refusal .ensures) ∙ c .if1 .left)
 
 put-space-requires : tie.Need-put-space-requires
-put-space-requires c κs = let f = not-refused (c .before) in ((f .kind, f .secondary, f .apid, f .flags, f .count), (f .some, f .most, f .fits))
+put-space-requires c κs = let f = not-refused (c .before) in ((f .packet-type, f .secondary, f .apid, f .flags, f .count), (f .some, f .most, f .fits))
 
 returns-2 : tie.Need-returns-2
 returns-2 c =
     let there = c .before .before .before .before in
     let a = there .before .before .before .before .args in
-    let ends = accepted (spaceRefusal (a .kind) (a .secondary) (a .apid) (a .flags) (a .count) (length (now (a .field))) (length (now (a .out))))
-    (spaceOctets (a .kind) (a .secondary) (a .apid) (a .flags) (a .count) (now (a .field))) (now (a .out)) (sym (there .before .refusal .ensures) ∙ there .if1 .left) in
-    (ap (λ n. 0 ∷ n ∷ []) (sym (space-size (a .kind) (a .secondary) (a .apid) (a .flags) (a .count) (now (a .field)))) ∙ ends .0, c .before .before .put-space .ensures ∙ ends .1)
+    let ends = accepted (spaceRefusal (a .packet-type) (a .secondary) (a .apid) (a .flags) (a .count) (length (now (a .field))) (length (now (a .out))))
+    (spaceOctets (a .packet-type) (a .secondary) (a .apid) (a .flags) (a .count) (now (a .field))) (now (a .out)) (sym (there .before .refusal .ensures) ∙ there .if1 .left) in
+    (ap (λ n. 0 ∷ n ∷ []) (sym (space-size (a .packet-type) (a .secondary) (a .apid) (a .flags) (a .count) (now (a .field)))) ∙ ends .0, c .before .before .put-space .ensures ∙ ends .1)
 
 pub write-space-spec : {M : Type 1} → statement M
 write-space-spec = tie.close (tie.spec (λ c κs. search needs) returns put-space-requires (λ c. search needs) (λ c. search needs) returns-2)

@@ -1,233 +1,267 @@
-//! The cases of lanes: some runs, a full lane, unsound states, other pools.
+//! The cases of lanes: calls on a state that earlier lines made, by calls or by
+//! hand.
+//!
+//! A state that was made by hand may be anything. Whether it is sound is judged
+//! here, by the paper's sentence, and every call asks that first.
 
+use super::line::{narrow, Line};
+use super::reading::record;
+use super::writing::{about_end, data, lent, UNTOUCHED};
+use crate::calls::lanes::call::{by_value, Deed};
+use crate::calls::lanes::sound::is_sound;
+use crate::calls::structs::{AnswerNumbers, LaneNumbers, SettingsNumbers, StateNumbers};
+use crate::calls::structs::{HELD, REPEAT, STRAY};
 use crate::forge::SpaceHead;
-use crate::lanes::{Lanes, Settings, COUNTS, POOL_OCTETS};
-use crate::reader::Refusal;
-use crate::record::MOST_PACKETS;
-use crate::replay::{self, shown, Player, Told};
-use crate::run_file::Call;
+use crate::lanes::{Settings, COUNTS, POOL_OCTETS};
+use crate::record::{Record, MOST_PACKETS, RECORD_OCTETS};
 
-/// States made unsound by hand. Here only open lanes are kept, and no number
-/// twice, so most of these can't be made at all; the paper answers 24 to every
-/// call on any of them.
-const UNSOUND: [&str; 18] = [
-    "APID over 2046",
-    "secondary over 63",
-    "share over cap",
-    "cap over 64",
-    "shares over 64",
-    "group without a block",
-    "blocks over the octets",
-    "blocks over the cap",
-    "place held twice",
-    "mark of no lane",
-    "octets without a group",
-    "closed lane with a group",
-    "closed lane with a block",
-    "last over 16383",
-    "packets over 262144",
-    "units over packets",
-    "open group not counted",
-    "missing over the bound",
-];
+/// The longest unit, and eight octets that must stay as they are.
+const OUTPUT: usize = 81_928;
 
-/// Each line with its newline.
-pub fn cases() -> String {
-    let runs = [
-        run("two lanes", &two_lanes()),
-        run("one block", &one_block()),
-        run("9 then 5", &nine_then_five()),
-        run("longest unit", &longest_unit()),
-    ];
-    let unsound = UNSOUND.map(|name| format!("unsound {name}: {}\n", ["refused 24"; 3].join(" ")));
-    let pools = [0, POOL_OCTETS - 1, POOL_OCTETS + 1].map(pool_case);
-    runs.concat() + &full_lane() + &unsound.concat() + &pools.concat()
+pub struct LaneCases {
+    state: StateNumbers,
+    pool: Vec<u8>,
+    /// How much of the pool is lent.
+    lent: u32,
 }
 
-fn run(name: &str, calls: &[Call]) -> String {
-    let file: Vec<u8> = calls.iter().flat_map(Call::laid).collect();
-    format!("run {name}:\n{}", replay::text(&file))
-}
+impl LaneCases {
+    pub fn fresh() -> Self {
+        LaneCases {
+            state: StateNumbers::FRESH,
+            pool: vec![0; POOL_OCTETS + 1],
+            lent: POOL_OCTETS as u32,
+        }
+    }
 
-/// Two lanes of which each may hold what the other's share leaves.
-fn two_lanes() -> Vec<Call> {
-    vec![
-        open(0, Settings::new(1, 42, [0, 20, 40])),
-        open(1, Settings::new(2, 43, [0, 20, 64])),
-        packet(1, 0, [43, 1, 0], 11_264),
-        packet(1, 0, [43, 0, 1], 1),
-        packet(0, 0, [42, 1, 0], 5_120),
-        packet(0, 0, [42, 0, 1], 1),
-        close(0, 20),
-        close(1, 20),
-    ]
-}
+    /// The fields follow the lane's number in the order of the struct.
+    pub fn make_lane(&mut self, line: &Line<'_>) -> Result<(), String> {
+        let [lane, opened, rest @ ..] = line.numbers::<14>()?;
+        let [station, apid, secondary, share, cap, rest @ ..] = rest;
+        let [units, packets, missing, broken, last, grouped, octets] = rest;
+        let made = LaneNumbers {
+            opened: truth(opened)?,
+            settings: settings([station, apid, secondary, share, cap])?,
+            units,
+            packets,
+            missing,
+            broken,
+            last: narrow(last)?,
+            grouped: truth(grouped)?,
+            octets: narrow(octets)?,
+        };
+        let place = self.state.lanes.get_mut(lane as usize);
+        *place.ok_or("no such lane")? = made;
+        Ok(())
+    }
 
-fn one_block() -> Vec<Call> {
-    vec![
-        open(3, Settings::new(9, 5, [0, 0, 1])),
-        packet(3, 0, [5, 1, 7], 257),
-        packet(3, 0, [5, 1, 7], 256),
-        packet(3, 0, [5, 0, 8], 1),
-        packet(3, 257, [5, 2, 8], 1),
-        close(3, 20),
-    ]
-}
+    pub fn make_mark(&mut self, line: &Line<'_>) -> Result<(), String> {
+        let [block, mark] = line.numbers()?;
+        let place = self.state.marks.get_mut(block as usize);
+        *place.ok_or("no such block")? = narrow(mark)?;
+        Ok(())
+    }
 
-fn nine_then_five() -> Vec<Call> {
-    vec![
-        open(0, Settings::new(1, 42, [0, 0, 0])),
-        packet(0, 1, [42, 3, 9], 1),
-        packet(0, 1, [42, 3, 5], 1),
-        close(0, 20),
-    ]
-}
+    pub fn make_pool(&mut self, line: &Line<'_>) -> Result<(), String> {
+        let [octets] = line.numbers()?;
+        lent(&mut self.pool, octets)?;
+        self.lent = octets;
+        Ok(())
+    }
 
-/// With one octet too few for the unit, then for the record, then enough.
-fn longest_unit() -> Vec<Call> {
-    vec![
-        open(7, Settings::new(65_535, 2_046, [0, 64, 64])),
-        packet(7, 0, [2_046, 1, 16_383], 16_384),
-        packet(7, 81_919, [2_046, 2, 0], 65_536),
-        packet(7, 81_920, [2_046, 2, 0], 65_536),
-        close(7, 19),
-        close(7, 20),
-    ]
-}
+    pub fn told(&mut self, line: &Line<'_>) -> Result<String, String> {
+        match line.verb {
+            "fresh" => {
+                self.state = StateNumbers::FRESH;
+                Ok(String::new())
+            }
+            "open" => self.open(line.numbers()?),
+            "packet" => self.packet(line.numbers()?),
+            "close" => self.close(line.numbers()?),
+            "fill" => line.numbers::<0>().map(|_| self.fill()),
+            _ => line.numbers::<0>().map(|_| self.sound()),
+        }
+    }
 
-fn open(lane: u8, settings: Settings) -> Call {
-    Call::Open { lane, settings }
-}
+    fn call(&mut self, lane: u32, deed: &Deed<'_>, output: &mut [u8]) -> AnswerNumbers {
+        let pool = &mut self.pool[..self.lent as usize];
+        let answer = by_value(&self.state, (lane as usize, deed), (pool, output));
+        self.state = answer.state;
+        answer
+    }
 
-fn close(lane: u8, space: u32) -> Call {
-    Call::Close { lane, space }
-}
+    fn open(&mut self, [lane, numbers @ ..]: [u32; 6]) -> Result<String, String> {
+        let deed = Deed::Open(Settings::from(settings(numbers)?));
+        let answer = self.call(lane, &deed, &mut []);
+        Ok(refused(&answer).unwrap_or(" ok".to_string()))
+    }
 
-/// The fields are APID, flags and count.
-fn packet(lane: u8, space: u32, [apid, flags, count]: [u32; 3], data: usize) -> Call {
-    let data: Vec<u8> = (0..data).map(|place| (place % 251) as u8).collect();
-    let octets = SpaceHead::new([0, 0, apid, flags, count]).with(&data);
-    Call::Packet {
-        lane,
-        space,
-        octets,
+    fn packet(&mut self, numbers: [u32; 6]) -> Result<String, String> {
+        let [lane, room, apid, flags, count, octets] = numbers;
+        let data = data(octets)?;
+        if apid > 2_047 || flags > 3 || count >= COUNTS || !(1..=65_536).contains(&octets) {
+            return Err("no packet is so".to_string());
+        }
+        let packet = SpaceHead::new([0, 0, apid, flags, count]).with(&data);
+        let mut output = vec![UNTOUCHED; OUTPUT];
+        let answer = self.call(lane, &Deed::Packet(&packet), lent(&mut output, room)?);
+        Ok(refused(&answer).unwrap_or_else(|| shown(&answer, &output)))
+    }
+
+    fn close(&mut self, [lane, room]: [u32; 2]) -> Result<String, String> {
+        let mut output = [0; RECORD_OCTETS];
+        let answer = self.call(lane, &Deed::Close, lent(&mut output, room)?);
+        Ok(refused(&answer).unwrap_or_else(|| record(&Record::taken(&output))))
+    }
+
+    /// Gives lane 0 as many packets as a lane may take, which no run file can
+    /// hold. What came of them shows in its record.
+    fn fill(&mut self) -> String {
+        for number in 0..MOST_PACKETS {
+            let packet = SpaceHead::new([0, 0, 42, 3, number % COUNTS]).with(&[0]);
+            self.call(0, &Deed::Packet(&packet), &mut [0]);
+        }
+        String::new()
+    }
+
+    fn sound(&self) -> String {
+        match is_sound(&self.state) {
+            true => " sound".to_string(),
+            false => " unsound".to_string(),
+        }
     }
 }
 
-/// A lane that takes all the packets it may, which no run file can hold.
-fn full_lane() -> String {
-    let mut player = Player::new();
-    player.play(&open(0, Settings::new(7, 42, [0, 0, 0])));
-    let mut send = |number: u32| player.play(&packet(0, 1, [42, 3, number % COUNTS], 1));
-    let is_unit = |number: &u32| matches!(send(*number), Told::Unit(..));
-    let accepted = (0..MOST_PACKETS).filter(is_unit).count();
-    let (next, last_again) = (send(MOST_PACKETS), send(MOST_PACKETS - 1));
-    let closed = player.play(&close(0, 20));
-    let answers = [next, last_again, closed].map(|told| format!("full lane: {}\n", shown(&told)));
-    format!("full lane: accepted {accepted}\n{}", answers.concat())
+fn settings(numbers: [u32; 5]) -> Result<SettingsNumbers, String> {
+    let [station, apid, secondary, share, cap] = numbers;
+    Ok(SettingsNumbers {
+        station: narrow(station)?,
+        apid: narrow(apid)?,
+        secondary: narrow(secondary)?,
+        share: narrow(share)?,
+        cap: narrow(cap)?,
+    })
 }
 
-/// An opening, a packet and a closing of a fresh start's lane, with a pool of
-/// so many octets.
-fn pool_case(octets: usize) -> String {
-    let (mut lanes, mut pool) = (Lanes::fresh(), vec![0; octets]);
-    let packet = SpaceHead::new([0, 0, 42, 3, 0]).with(&[0]);
-    let mut output = [0; 20];
-    let answers = [
-        lanes.open(0, Settings::new(7, 42, [0, 0, 0]), &pool),
-        lanes.packet(0, &packet, &mut pool, &mut output).map(|_| ()),
-        lanes.close(0, &pool, &mut output),
-    ];
-    let answers = answers.map(|answer| match answer {
-        Ok(()) => "ok".to_string(),
-        Err(Refusal(number)) => format!("refused {number}"),
-    });
-    format!("pool of {octets} octets: {}\n", answers.join(" "))
+fn truth(number: u32) -> Result<u8, String> {
+    match number {
+        0 | 1 => Ok(number as u8),
+        _ => Err(format!("{number} is neither 0 nor 1")),
+    }
+}
+
+fn refused(answer: &AnswerNumbers) -> Option<String> {
+    (answer.refusal > 0).then(|| format!(" refused {}", answer.refusal))
+}
+
+/// What a packet that isn't refused tells, and of a unit what lies in the output.
+fn shown(answer: &AnswerNumbers, output: &[u8]) -> String {
+    let step = format!("{} {}", answer.missing, answer.given_up);
+    match answer.kind {
+        REPEAT => " repeat".to_string(),
+        STRAY => format!(" stray {step}"),
+        HELD => format!(" held {step}"),
+        _ => {
+            let octets = answer.octets;
+            format!(" unit {step} {octets}{}", about_end(output, octets))
+        }
+    }
 }
 
 #[cfg(test)]
 mod tests {
-    use super::*;
+    use super::super::tests::answers;
 
-    /// The answers of a run: its lines without the offsets, but for the last.
-    fn answers(calls: &[Call], expected: &[&str]) {
-        let text = run("of a test", calls);
-        let (lines, _) = text.split_once("\nend ").expect("a last line");
-        let answers = lines
-            .lines()
-            .skip(1)
-            .filter_map(|line| line.split_once(' '));
-        let answers: Vec<&str> = answers.map(|(_, answer)| answer).collect();
-        assert_eq!(answers, expected);
-    }
+    const HELD: [&str; 3] = [
+        "lane 0 1 7 42 0 1 3 0 1 0 0 0 1 257",
+        "mark 0 0",
+        "mark 1 1",
+    ];
 
-    #[test]
-    fn two_lanes_share_the_pool() {
-        answers(
-            &two_lanes(),
-            &[
-                "open 0 ok",
-                "open 1 ok",
-                "packet 1 held 0 0",
-                "packet 1 refused 19",
-                "packet 0 held 0 0",
-                "packet 0 refused 19",
-                "close 0 record 1 42 0 1 0 1",
-                "close 1 record 2 43 0 1 0 1",
-            ],
-        );
-    }
-
-    #[test]
-    fn one_block_and_a_step_back() {
-        answers(
-            &one_block()[..4],
-            &[
-                "open 3 ok",
-                "packet 3 refused 19",
-                "packet 3 held 0 0",
-                "packet 3 refused 19",
-            ],
-        );
-        let text = run("9 then 5", &nine_then_five());
-        assert!(text.starts_with("run 9 then 5:\n0 open 0 ok\n9 packet 0 unit 0 0 1 65537\n"));
-        assert!(text.contains(" packet 0 unit 16379 0 1 65537\n"));
-        assert!(text.contains(" close 0 record 1 42 2 2 16379 0\n"));
-    }
-
-    #[test]
-    fn the_longest_unit_needs_its_space() {
-        let text = run("longest unit", &longest_unit());
-        let parts = [
-            " packet 7 held 0 0\n",
-            " packet 7 refused 20\n",
-            " packet 7 unit 0 0 81920 ",
-            " close 7 refused 9\n",
-            " close 7 record 65535 2046 1 2 0 0\n",
+    /// The answers to these lines and then to a question for soundness, an
+    /// opening, a packet and a closing.
+    fn asked(lines: &[&str]) -> Vec<String> {
+        let asks = [
+            "sound",
+            "open 2 7 42 0 0 0",
+            "packet 0 20 42 3 1 1",
+            "close 0 20",
         ];
-        for part in parts {
-            assert!(text.contains(part), "no {part}");
+        answers(&[lines, &asks].concat())
+    }
+
+    #[test]
+    fn two_blocks() {
+        let lines = [
+            "open 3 9 5 0 0 2",
+            "packet 3 0 5 1 7 513",
+            "packet 3 0 5 1 7 257",
+            "packet 3 0 5 0 8 255",
+            "packet 3 0 5 0 9 1",
+            "close 3 19",
+            "close 3 20",
+        ];
+        let expected = [
+            "ok",
+            "refused 19",
+            "held 0 0",
+            "held 0 0",
+            "refused 19",
+            "refused 9",
+            "record 9 5 0 2 0 1",
+        ];
+        assert_eq!(answers(&lines), expected);
+    }
+
+    #[test]
+    fn a_unit_and_what_lies_in_the_output() {
+        let lines = [
+            "open 0 7 42 0 0 0",
+            "packet 0 4 42 3 9 3",
+            "packet 0 2 42 3 5 3",
+        ];
+        let untouched = " a5".repeat(21);
+        let unit = format!("unit 0 0 3 output 00 01 02{untouched} end 02 a5");
+        assert_eq!(answers(&lines), ["ok", &unit, "refused 20"]);
+    }
+
+    #[test]
+    fn states_by_hand() {
+        let sound = asked(&HELD);
+        assert_eq!(sound[..2], ["sound", "ok"]);
+        assert!(sound[2].starts_with("unit 0 1 1 output 00 a5 "));
+        assert_eq!(sound[3], "record 7 42 1 2 0 1");
+        let twice = asked(&[&HELD[..], &["mark 2 0"]].concat());
+        assert_eq!(twice, ["unsound", "refused 24", "refused 24", "refused 24"]);
+        let again = asked(&[&HELD[..], &["mark 2 0", "fresh start"]].concat());
+        assert_eq!(again[1..], ["sound", "ok", "refused 11", "refused 11"]);
+    }
+
+    #[test]
+    fn other_pools() {
+        for pool in ["pool 0", "pool 16383", "pool 16385"] {
+            let answers = asked(&[pool]);
+            assert_eq!(answers, ["sound", "refused 24", "refused 24", "refused 24"]);
         }
+        assert_eq!(asked(&["pool 0", "pool 16384"])[1], "ok");
     }
 
     #[test]
     fn a_full_lane() {
         let lines = [
-            "full lane: accepted 262144",
-            "full lane: refused 18",
-            "full lane: repeat",
-            "full lane: record 7 42 262144 262144 0 0",
+            "open 0 7 42 0 0 0",
+            "fill",
+            "packet 0 1 42 3 0 1",
+            "packet 0 1 42 3 16383 1",
+            "close 0 20",
         ];
-        assert_eq!(full_lane().lines().collect::<Vec<_>>(), lines);
-    }
-
-    #[test]
-    fn every_call_is_refused_for_its_pool() {
-        let text = cases();
-        let refused = "refused 24 refused 24 refused 24";
-        let end = [0, 16_383, 16_385].map(|octets| format!("pool of {octets} octets: {refused}\n"));
-        assert!(text.ends_with(&end.concat()));
-        assert_eq!(text.matches(refused).count(), UNSOUND.len() + 3);
-        assert_eq!(pool_case(16_384), "pool of 16384 octets: ok ok ok\n");
+        let expected = [
+            "ok",
+            "",
+            "refused 18",
+            "repeat",
+            "record 7 42 262144 262144 0 0",
+        ];
+        assert_eq!(answers(&lines), expected);
     }
 }

@@ -1,7 +1,7 @@
 //! Inputs that go through fields and places one by one.
 
 use super::{packets, Inputs};
-use crate::cases::{LISTING, READING, STARRED};
+use crate::cases::{self, STARRED};
 use crate::forge::{EncapHead, SpaceHead};
 use crate::hex;
 use crate::random::Random;
@@ -9,8 +9,8 @@ use crate::reader::LONGEST_ENCAP;
 
 /// The paper's cases, and the packets that its writing cases begin.
 pub fn paper_cases() -> Inputs {
-    let texts = [STARRED, READING, LISTING].concat();
-    let mut inputs: Inputs = texts.iter().map(|text| hex::octets(text)).collect();
+    let mut inputs: Inputs = STARRED.iter().map(|text| hex::octets(text)).collect();
+    inputs.extend(cases::packets());
     for (start, content) in [("E9 FF", 253), ("EA 00 01 02", 254)] {
         inputs.push([hex::octets(start), vec![0x5A; content]].concat());
     }

@@ -16,7 +16,7 @@ add-t10 : tie.Need-add-t10
 add-t10 c = let t = is-fine _ (c .before .before .before .before .before .pre) .tallies in omega (arith, t .packets, t .missing)
 
 cast-t12 : tie.Need-cast-t12
-cast-t12 c = omega (arith, c .one-if .ensures, one-most (c .before .before .before .before .before .before .args .a .broke))
+cast-t12 c = omega (arith, c .one-if .ensures, one-most (c .before .before .before .before .before .before .args .a .«given_up»))
 
 add-t13 : tie.Need-add-t13
 add-t13 c = let t = is-fine _ (c .before .before .before .before .before .before .before .pre) .tallies in omega (arith, t .units, t .packets, c .before .one-if .ensures)

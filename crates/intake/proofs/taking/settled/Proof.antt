@@ -8,12 +8,10 @@ returns : tie.Need-returns
 returns c = sure _ _ _ _ (c .before .plan .given .1)
 
 returns-2 : tie.Need-returns-2
-returns-2 c =
-    taken _ _ _ _ _ _ (c .before .before .before .before .before .plan2 .given .1) _ (c .before .before .before .need-with .ensures) _ (c .before .before .others-of .ensures .0) _ (c .before .is-room .ensures) (c .if1 .taken)
+returns-2 c = taken _ _ _ _ _ (c .before .before .before .before .before .before .pre) _ _ (c .before .before .before .before .plan2 .given .1) _ (c .before .before .with-group .ensures) _ (c .before .is-within .ensures) (c .if1 .taken)
 
 returns-3 : tie.Need-returns-3
-returns-3 c =
-    refused _ _ _ _ _ _ (c .before .before .before .before .before .plan2 .given .1) _ (c .before .before .before .need-with .ensures) _ (c .before .before .others-of .ensures .0) _ (c .before .is-room .ensures) (c .if1 .left)
+returns-3 c = refused _ _ _ _ _ (c .before .before .before .before .before .before .pre) _ _ (c .before .before .before .before .plan2 .given .1) _ (c .before .before .with-group .ensures) _ (c .before .is-within .ensures) (c .if1 .left)
 
 pub settled-spec : {M : Type 1} → statement M
 settled-spec =
@@ -21,7 +19,6 @@ settled-spec =
     (tie.spec
     (λ c. search needs)
     (λ c. search needs)
-    (λ c κs. search needs)
     (λ c κs. search needs)
     (λ c κs. search needs)
     returns

@@ -4,7 +4,7 @@ use native.Mathlib.Omega.{arith}
 use denote.Ref.{now}
 use lib.ListN.{length-take}
 use lib.Seq.{take-all}
-use Rattle.replaying.specs.Adler.{adler}
+use Rattle.adler.specs.Adler.{adler}
 use borrow.Author.Needs.{needs}
 use Rattle.replaying.proofs.lines.adler_of.Statement.{statement}
 use Rattle.replaying.proofs.lines.adler_of.Tie as tie

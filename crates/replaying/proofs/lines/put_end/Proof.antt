@@ -3,7 +3,7 @@ use mathlib.Core.List.{[], _∷_, _++_}
 use denote.Ref.{now}
 use Rattle.text.specs.Text.{ascii, numbers}
 use Rattle.text.proofs.Cut.{Put, after}
-use Rattle.replaying.specs.Adler.{adler}
+use Rattle.adler.specs.Adler.{adler}
 use Rattle.replaying.specs.Lines.{endLine}
 use borrow.Author.Needs.{needs}
 use Rattle.replaying.proofs.lines.put_end.Statement.{statement}

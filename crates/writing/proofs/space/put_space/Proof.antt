@@ -7,6 +7,7 @@ use denote.Ref.{now}
 use lib.ListN.{length}
 use Rattle.octets.specs.Octets.{octets2}
 use Rattle.octets.proofs.Puts.{first-put, then-put}
+use Rattle.packet.specs.Space.{apids, counts}
 use Rattle.writing.specs.Space.{spaceOctets}
 use borrow.Author.Needs.{needs}
 use Rattle.writing.proofs.space.put_space.Statement.{statement}
@@ -23,8 +24,8 @@ returns c =
     let fits = start .pre in
     let d = now (start .args .out) in
     let field = now (start .args .field) in
-    let a = octets2 (start .args .kind * 4096 + start .args .secondary * 2048 + start .args .apid) in
-    let b = octets2 (start .args .flags * 16384 + start .args .count) in
+    let a = octets2 ((start .args .packet-type * 2 + start .args .secondary) * apids + start .args .apid) in
+    let b = octets2 (start .args .flags * counts + start .args .count) in
     let n = octets2 (length field - 1) in
     let put1 = first-put d 0 a (omega (arith, fits)) refl (at1 .put-be16 .ensures) in
     let put2 = then-put d 0 a b (omega (arith, fits)) refl put1 (at2 .put-be162 .ensures) in

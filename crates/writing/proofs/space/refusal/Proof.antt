@@ -3,6 +3,7 @@ use native.Mathlib.Omega.{arith}
 use borrow.Author.Tests.{lt-ltb, le-ltb, ltb-false}
 use lib.Dec.{eqb, ltb}
 use Rattle.octets.proofs.Order.{neither}
+use Rattle.packet.specs.Space.{longestData}
 use Rattle.writing.specs.Space.{spaceRefusal}
 use Rattle.writing.proofs.space.refusal.Statement.{statement}
 use Rattle.writing.proofs.space.refusal.Tie as tie
@@ -22,7 +23,7 @@ returns-3 c = simp (c .before .before .if1 .left, c .before .if2 .left, c .if3 .
 add-if4 : tie.Need-add-if4
 add-if4 c =
     let n = c .before .before .before .args .n in
-    omega (arith, ltb-false 65536 n (neither (eqb n 0) (ltb 65536 n) (c .if3 .left) .1))
+    omega (arith, ltb-false longestData n (neither (eqb n 0) (ltb longestData n) (c .if3 .left) .1))
 
 returns-4 : tie.Need-returns-4
 unfolding spaceRefusal
