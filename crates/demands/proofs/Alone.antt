@@ -26,9 +26,9 @@ use Rattle.grouping.specs.Steps.{laneAfter}
 use Rattle.lane.proofs.Fine.{is-fine, is-legal, none-held}
 use Rattle.grouping.proofs.Planned.{Planned, planned, refuses, repeats, strays, ends, holds}
 use Rattle.state.specs.declared.State.{State}
-use Rattle.state.specs.State.{freshState, laneAt, total, others, within}
+use Rattle.state.specs.State.{freshState, laneAt, total, within}
 use Rattle.state.proofs.Soundness.{opened-small}
-use Rattle.state.proofs.Within.{need-closed, need-open, others-same, share-fits, alone-fits}
+use Rattle.state.proofs.Within.{others, need-closed, need-open, others-same, share-fits, alone-fits}
 use Rattle.intake.specs.Calls.{openedWith, openingRefusal, closingRefusal, settle}
 use Rattle.intake.specs.After.{opening, closing, closingOut, answerOf, taking}
 use Rattle.demands.specs.Runs.{Intake, Start, begun, Call, opens, takes, closes, Reply, toOpening, toPacket, reply, after, run, replies, laneOf, names, own, repliesTo}

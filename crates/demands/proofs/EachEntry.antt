@@ -1,30 +1,36 @@
 -- Every entry meets demand 1: its promise is an equation whose number is that of its order, and what it leaves is `unlessRefused`. Entries of one shape are
 -- proved once: readers, writers, and the functions that return the number.
-use Prim.Native.Nat.{ℕ, _-_, _%_}
+use Prim.Native.Nat.{ℕ, _+_, _-_, _%_}
 use Prim.{Unit}
 use mathlib.Core.Path.{_≡_, refl, sym, ap, _∙_}
+use mathlib.Core.Logic.{⊎-elim}
 use mathlib.Core.Bool.{not}
 use mathlib.Core.List.{List, [], _∷_}
+use borrow.Author.Tests.{eqb-true, eqb-false}
 use lib.Dec.{eqb, ltb}
 use lib.ListN.{length, drop}
-use Rattle.octets.specs.Order.{Test, first}
-use Rattle.octets.specs.Output.{answer, leading, unlessRefused, put, writerTells, outputAfter}
+use Rattle.octets.specs.Order.{Test, first, numbersOf}
+use Rattle.octets.specs.Output.{leading, unlessRefused, put, outputAfter}
 use Rattle.octets.proofs.Order.{either, leads-first}
 use Rattle.packet.specs.declared.Packet.{Packet}
 use Rattle.packet.specs.declared.Packet.the-variants as packet
 use Rattle.packet.specs.Space as space
 use Rattle.packet.specs.Encapsulation as encap
-use Rattle.reading.specs.Reading.{isSpace, readingTests, refusal, fields, reading}
+use Rattle.reading.specs.Reading.{isSpace, refusal, fields, reading}
 use Rattle.packet.specs.Told as packetTold
+use Rattle.reading.proofs.Exactly.{verdict, refused, accepted, in-order}
 use Rattle.reading.proofs.Answers as readingAnswers
 use Rattle.walk.specs.Walk.{nextOrHere}
 use Rattle.walk.proofs.Looked.{one-found}
 use Rattle.writing.specs.declared.Written.{Written}
 use Rattle.writing.specs.declared.Written.the-variants as written
-use Rattle.writing.specs.Space.{spaceOctets, spaceRefusal}
-use Rattle.writing.specs.Encapsulation.{encapOctets, encapRefusal}
+use Rattle.packet.specs.Space.{spaceHeader}
+use Rattle.writing.specs.Space.{spaceOctets, spaceTests, spaceTold}
+use Rattle.writing.specs.Encapsulation.{shortest, encapOctets, encapTests, encapTold}
 use Rattle.writing.specs.Told as writingTold
 use Rattle.writing.proofs.Answers as writingAnswers
+use Rattle.writing.proofs.SpaceFine as spaceFine
+use Rattle.writing.proofs.EncapFine as encapFine
 use Rattle.record.specs.declared.RecordWritten.{RecordWritten}
 use Rattle.record.specs.declared.RecordWritten.the-variants as recordWritten
 use Rattle.record.specs.declared.RecordRead.{RecordRead}
@@ -41,10 +47,10 @@ use Rattle.demands.specs.Entry.{Entry, Demand1}
 use Rattle.demands.specs.Entries.{SpacePacket, EncapsulationPacket, RecordGiven}
 use Rattle.demands.specs.Entries.{readPacket, lookAt, writeSpace, writeEncapsulation, readRecord, readRecordFile, writeRecord}
 use Rattle.demands.specs.Exported.{readPacketC, writeSpaceC, writeEncapsulationC, readRecordC, readRecordFileC, writeRecordC}
-use Rattle.demands.proofs.Refusals.{demand, leads, left-alone}
+use Rattle.demands.proofs.Refusals.{demand, left-alone}
 
 -- ---- an answer that tells its number and values
-module _ {A G : Type 0} (told : A → List ℕ) (tests : G → List (Test ℕ)) (tells : G → List ℕ) where
+module _ {A G : Type 0} (told : A → List ℕ) (tests : G → List (Test (List ℕ))) (tells : G → List ℕ) where
   -- each input has an answer, and what is told fixes it
   abbrev Answers : Type 0
   Answers = (g : G) → (a : A) × (told a ≡ tells g)
@@ -64,7 +70,7 @@ module _ {A G : Type 0} (told : A → List ℕ) (tests : G → List (Test ℕ)) 
     Permits = λ g a l. told a ≡ tells g;
   }
 
-  reads : ((g : G) → leading (tells g) ≡ first 0 (tests g)) → Answers → Fixes → Demand1 Reader
+  reads : ((g : G) → leading (tells g) ≡ first 0 (numbersOf (tests g))) → Answers → Fixes → Demand1 Reader
   reads ordered answers fixes = demand Reader (λ g. leading (tells g)) ordered
       (λ g. (answers g .0, (tt, answers g .1)))
       (λ g a l e. (ap leading e, λ r. refl))
@@ -83,7 +89,7 @@ module _ {A G : Type 0} (told : A → List ℕ) (tests : G → List (Test ℕ)) 
       Permits = λ g a l. (told a ≡ tells g) × (l ≡ outputAfter (number g) (text g) (out g));
     }
 
-    writes : ((g : G) → leading (tells g) ≡ number g) → ((g : G) → number g ≡ first 0 (tests g)) → Answers → Fixes → Demand1 Writer
+    writes : ((g : G) → leading (tells g) ≡ number g) → ((g : G) → number g ≡ first 0 (numbersOf (tests g))) → Answers → Fixes → Demand1 Writer
     unfolding outputAfter
     writes begins ordered answers fixes = demand Writer number ordered
         (λ g. (answers g .0, (outputAfter (number g) (text g) (out g), (answers g .1, refl))))
@@ -91,7 +97,7 @@ module _ {A G : Type 0} (told : A → List ℕ) (tests : G → List (Test ℕ)) 
         (λ g a b l m p q. (fixes g a b (p .0) (q .0), p .1 ∙ sym (q .1)))
 
 -- ---- a function that returns the number, and leaves the new value of one or of two things that were lent
-module _ {G : Type 0} (tests : G → List (Test ℕ)) (number : G → ℕ) (ordered : (g : G) → number g ≡ first 0 (tests g)) {L : Type 0} (new old : G → L) where
+module _ {G : Type 0} (tests : G → List (Test (List ℕ))) (number : G → ℕ) (ordered : (g : G) → number g ≡ first 0 (numbersOf (tests g))) {L : Type 0} (new old : G → L) where
   abbrev Returner : Entry
   Returner = record {
     Given = G;
@@ -128,30 +134,24 @@ module _ {G : Type 0} (tests : G → List (Test ℕ)) (number : G → ℕ) (orde
         (λ g a b l m p q. (p .0 ∙ sym (q .0), λ i. ((p .1 .0 ∙ sym (q .1 .0)) i, (p .1 .1 ∙ sym (q .1 .1)) i)))
 
 -- ---- reading a packet
-read-answer : (s : List ℕ) → (a : Packet) × (packetTold.told a ≡ answer (refusal s) (fields s))
+read-answer : (s : List ℕ) → (a : Packet) × (packetTold.told a ≡ reading s)
 unfolding fields
 read-answer s =
-    either (eqb (refusal s) 0)
-    (λ t. either (isSpace s)
-    (λ k. (packet.Space (space.packetType s) (space.secondary s) (space.apid s) (space.flags s) (space.count s) (space.dataOctets s), simp (t, k) refl))
-    (λ k. (packet.Encapsulation (encap.protocol s) (encap.user s) (encap.extension s) (encap.encapHeader s) (encap.encapSize s - encap.encapHeader s), simp (t, k) refl)))
-    (λ f. (packet.Refused (refusal s), simp f refl))
+    ⊎-elim
+    (λ w. either (isSpace s)
+    (λ k. (packet.Space (space.packetType s) (space.secondary s) (space.apid s) (space.flags s) (space.count s) (space.dataOctets s), simp k at (accepted {s = s} w)))
+    (λ k. (packet.Encapsulation (encap.protocol s) (encap.user s) (encap.extension s) (encap.encapHeader s) (encap.encapSize s - encap.encapHeader s), simp k at (accepted {s = s} w))))
+    (λ why. (packet.Refused (why .0), refused (why .1))) (verdict s)
 
-read-ordered : (s : List ℕ) → leading (reading s) ≡ first 0 (readPacket .tests s)
-unfolding refusal reading
-read-ordered s = leads (refusal s) (fields s) _ refl
+read-ordered : (s : List ℕ) → leading (reading s) ≡ first 0 (numbersOf (readPacket .tests s))
+unfolding refusal
+read-ordered s = in-order s
 
 pub reads-packet : Demand1 readPacket
-unfolding reading
 reads-packet = reads packetTold.told (readPacket .tests) reading read-ordered read-answer (λ s a b. readingAnswers.one-answer a b s)
 
-look-ordered : (s : List ℕ) → refusal s ≡ first 0 (readingTests s)
-unfolding refusal
-look-ordered s = refl
-
 pub looks-at : Demand1 lookAt
-unfolding reading
-looks-at = demand lookAt (λ g. refusal (drop (g .at) (g .octets))) (λ g. look-ordered (drop (g .at) (g .octets)))
+looks-at = demand lookAt (λ g. refusal (drop (g .at) (g .octets))) (λ g. in-order (drop (g .at) (g .octets)))
     (λ g. let s = drop (g .at) (g .octets) in
     let p = read-answer s in
     (record { packet = p .0; refused = refusal s; next = nextOrHere (g .octets) (g .at) }, (tt, record { tells = p .1; number = refl; place = refl })))
@@ -159,32 +159,37 @@ looks-at = demand lookAt (λ g. refusal (drop (g .at) (g .octets))) (λ g. look-
     (λ g a b l m p q. (one-found (g .octets) (g .at) a b p q, refl))
 
 pub reads-packet-C : Demand1 readPacketC
-unfolding refusal
-reads-packet-C = returns (readPacketC .tests) (λ g. refusal (g .octets)) (λ g. refl) (λ g. packetNumbers (g .octets)) (λ g. g .numbers)
+reads-packet-C = returns (readPacketC .tests) (λ g. refusal (g .octets)) (λ g. in-order (g .octets)) (λ g. packetNumbers (g .octets)) (λ g. g .numbers)
 
 -- ---- writing a packet
-begins : (n : ℕ) (text : List ℕ) → leading (writerTells n text) ≡ n
-unfolding writerTells
-begins n text = leads n (length text ∷ []) _ refl
+write-answer : (number octets : ℕ) (tells : List ℕ) → (number ≡ 0 → 0 ∷ octets ∷ [] ≡ tells) → ((number ≡ 0 → ⊥) → number ∷ [] ≡ tells) → (a : Written) × (writingTold.told a ≡ tells)
+write-answer number octets tells fine refused′ =
+    either (eqb number 0) (λ t. (written.Octets octets, fine (eqb-true number 0 t))) (λ f. (written.Refused number, refused′ (eqb-false number 0 f)))
 
-write-answer : (n : ℕ) (text : List ℕ) → (a : Written) × (writingTold.told a ≡ writerTells n text)
-unfolding writerTells
-write-answer n text = either (eqb n 0) (λ t. (written.Octets (length text), simp t refl)) (λ f. (written.Refused n, simp f refl))
+module _ (g : SpacePacket) where
+  abbrev spaceTells : List ℕ
+  spaceTells = spaceTold (g .packetType) (g .secondary) (g .apid) (g .flags) (g .count) (length (g .field)) (length (g .out))
 
-abbrev spaceNumber : SpacePacket → ℕ
-spaceNumber g = spaceRefusal (g .packetType) (g .secondary) (g .apid) (g .flags) (g .count) (length (g .field)) (length (g .out))
+  abbrev spaceNumber : ℕ
+  spaceNumber = leading spaceTells
 
-abbrev spaceText : SpacePacket → List ℕ
-spaceText g = spaceOctets (g .packetType) (g .secondary) (g .apid) (g .flags) (g .count) (g .field)
+  abbrev spaceText : List ℕ
+  spaceText = spaceOctets (g .packetType) (g .secondary) (g .apid) (g .flags) (g .count) (g .field)
 
-space-ordered : (g : SpacePacket) → spaceNumber g ≡ first 0 (writeSpace .tests g)
-unfolding spaceRefusal
-space-ordered g = refl
+  space-ordered : spaceNumber ≡ first 0 (numbersOf (writeSpace .tests g))
+  unfolding spaceTold
+  space-ordered = leads-first (0 ∷ (spaceHeader + length (g .field)) ∷ []) (spaceTests (g .packetType) (g .secondary) (g .apid) (g .flags) (g .count) (length (g .field)) (length (g .out)))
+
+  space-answer : (a : Written) × (writingTold.told a ≡ spaceTells)
+  space-answer =
+      write-answer spaceNumber (spaceHeader + length (g .field)) spaceTells
+      (spaceFine.fine-told (g .packetType) (g .secondary) (g .apid) (g .flags) (g .count) (length (g .field)) (length (g .out)))
+      (spaceFine.refused-told (g .packetType) (g .secondary) (g .apid) (g .flags) (g .count) (length (g .field)) (length (g .out)) refl)
 
 pub writes-space : Demand1 writeSpace
 writes-space =
-    writes writingTold.told (writeSpace .tests) (λ g. writerTells (spaceNumber g) (spaceText g)) spaceNumber spaceText (λ g. g .out)
-    (λ g. begins (spaceNumber g) (spaceText g)) space-ordered (λ g. write-answer (spaceNumber g) (spaceText g)) (λ g a b. writingAnswers.one-answer a b _)
+    writes writingTold.told (writeSpace .tests) spaceTells spaceNumber spaceText (λ g. g .out)
+    (λ g. refl) space-ordered space-answer (λ g a b. writingAnswers.one-answer a b _)
 
 pub writes-space-C : Demand1 writeSpaceC
 unfolding outputAfter
@@ -192,20 +197,30 @@ writes-space-C =
     returns-2 (writeSpaceC .tests) (λ g. spaceNumber (g .packet)) (λ g. space-ordered (g .packet))
     (λ g. put (g .packet .out) 0 (spaceText (g .packet))) (λ g. g .packet .out) (λ g. length (spaceText (g .packet))) (λ g. g .written)
 
-abbrev encapNumber : EncapsulationPacket → ℕ
-encapNumber g = encapRefusal (g .protocol) (g .user) (g .extension) (length (g .content)) (length (g .out))
+module _ (g : EncapsulationPacket) where
+  abbrev encapTells : List ℕ
+  encapTells = encapTold (g .protocol) (g .user) (g .extension) (length (g .content)) (length (g .out))
 
-abbrev encapText : EncapsulationPacket → List ℕ
-encapText g = encapOctets (g .protocol) (g .user) (g .extension) (g .content)
+  abbrev encapNumber : ℕ
+  encapNumber = leading encapTells
 
-encap-ordered : (g : EncapsulationPacket) → encapNumber g ≡ first 0 (writeEncapsulation .tests g)
-unfolding encapRefusal
-encap-ordered g = refl
+  abbrev encapText : List ℕ
+  encapText = encapOctets (g .protocol) (g .user) (g .extension) (g .content)
+
+  encap-ordered : encapNumber ≡ first 0 (numbersOf (writeEncapsulation .tests g))
+  unfolding encapTold
+  encap-ordered = leads-first (0 ∷ (shortest (g .protocol) (g .user) (length (g .content)) + length (g .content)) ∷ []) (encapTests (g .protocol) (g .user) (g .extension) (length (g .content)) (length (g .out)))
+
+  encap-answer : (a : Written) × (writingTold.told a ≡ encapTells)
+  encap-answer =
+      write-answer encapNumber (shortest (g .protocol) (g .user) (length (g .content)) + length (g .content)) encapTells
+      (encapFine.fine-told (g .protocol) (g .user) (g .extension) (length (g .content)) (length (g .out)))
+      (encapFine.refused-told (g .protocol) (g .user) (g .extension) (length (g .content)) (length (g .out)) refl)
 
 pub writes-encapsulation : Demand1 writeEncapsulation
 writes-encapsulation =
-    writes writingTold.told (writeEncapsulation .tests) (λ g. writerTells (encapNumber g) (encapText g)) encapNumber encapText (λ g. g .out)
-    (λ g. begins (encapNumber g) (encapText g)) encap-ordered (λ g. write-answer (encapNumber g) (encapText g)) (λ g a b. writingAnswers.one-answer a b _)
+    writes writingTold.told (writeEncapsulation .tests) encapTells encapNumber encapText (λ g. g .out)
+    (λ g. refl) encap-ordered encap-answer (λ g a b. writingAnswers.one-answer a b _)
 
 pub writes-encapsulation-C : Demand1 writeEncapsulationC
 unfolding outputAfter
@@ -214,7 +229,7 @@ writes-encapsulation-C =
     (λ g. put (g .packet .out) 0 (encapText (g .packet))) (λ g. g .packet .out) (λ g. length (encapText (g .packet))) (λ g. g .written)
 
 -- ---- records: the number leads what is told, and so what the first test tells
-record-ordered : (s : List ℕ) → recordRefusal s ≡ first 0 (readRecord .tests s)
+record-ordered : (s : List ℕ) → recordRefusal s ≡ first 0 (numbersOf (readRecord .tests s))
 unfolding recordReading
 record-ordered s = leads-first (0 ∷ recordFields (recordIn s)) (recordTests s)
 
@@ -233,7 +248,7 @@ reads-record-C = returns (readRecordC .tests) (λ g. recordRefusal (g .octets)) 
 abbrev creditNumber : RecordGiven → ℕ
 creditNumber g = writingRefusal (g .credit) (length (g .out))
 
-credit-ordered : (g : RecordGiven) → creditNumber g ≡ first 0 (writeRecord .tests g)
+credit-ordered : (g : RecordGiven) → creditNumber g ≡ first 0 (numbersOf (writeRecord .tests g))
 unfolding recordTold
 credit-ordered g = leads-first (0 ∷ recordSize ∷ []) (writingTests (g .credit) (length (g .out)))
 
@@ -253,7 +268,7 @@ unfolding outputAfter
 writes-record-C = returns (writeRecordC .tests) creditNumber credit-ordered (λ g. put (g .out) 0 (recordOctets (g .credit))) (λ g. g .out)
 
 -- a file: 25 comes with its index
-file-ordered : (s : List ℕ) → fileRefusal s ≡ first 0 (readRecordFile .tests s)
+file-ordered : (s : List ℕ) → fileRefusal s ≡ first 0 (numbersOf (readRecordFile .tests s))
 unfolding fileReading
 file-ordered s = leads-first (0 ∷ recordsIn s ∷ []) (fileTests s)
 

@@ -11,7 +11,7 @@ use lib.Dec.{eqb}
 use Rattle.octets.specs.Octets.{one}
 use Rattle.octets.specs.Output.{put, outputAfter}
 use Rattle.octets.proofs.Order.{both}
-use Rattle.reading.specs.Reading.{header, size, readingTests, refusal, content}
+use Rattle.reading.specs.Reading.{header, size, readingTests, reading, refusal, content}
 use Rattle.writing.specs.Space.{spaceOctets}
 use Rattle.record.specs.Record.{possible, recordOctets}
 use Rattle.marks.specs.Blocks.{blocksFor, find, granted, freedMark}
@@ -112,7 +112,7 @@ same-free x size (c ∷ calls) =
 -- ---- computed
 -- whoever unfolds `calling` unfolds all that its own line names, by which a call computes; and `running`, a run
 calling : Unit {0}
-unfolding one put outputAfter header size readingTests refusal content spaceOctets possible recordOctets blocksFor find granted freedMark found holds eachHolds count sum matching place stored gathered need illegal talliesPossible fine fault userData repeats missingBefore breaks givesUp goesOn holdPlan unitPlan groupingPlan acceptedPlan packetPlan laneAfter freshState total within every sound unsound openingRefusal closingRefusal settle packetStep opening closing closingOut releasedFrom grown marksAfter poolAfter groupOf outAfter taking takingPool takingOut
+unfolding one put outputAfter header size readingTests reading refusal content spaceOctets possible recordOctets blocksFor find granted freedMark found holds eachHolds count sum matching place stored gathered need illegal talliesPossible fine fault userData repeats missingBefore breaks givesUp goesOn holdPlan unitPlan groupingPlan acceptedPlan packetPlan laneAfter freshState total within every sound unsound openingRefusal closingRefusal settle packetStep opening closing closingOut releasedFrom grown marksAfter poolAfter groupOf outAfter taking takingPool takingOut
 calling = tt
 
 unfoldable pub running : Unit {0}

@@ -4,7 +4,7 @@ use Prim.Native.Nat.{ℕ}
 use mathlib.Core.Path.{_≡_, refl, sym, ap, _∙_}
 use mathlib.Core.List.{List}
 use lib.ListN.{length}
-use Rattle.octets.specs.Order.{first}
+use Rattle.octets.specs.Order.{first, numbersOf}
 use Rattle.octets.specs.Output.{leading}
 use Rattle.grouping.specs.declared.Step.{Step}
 use Rattle.grouping.specs.declared.Step.the-variants.{Refuse, Repeat, Stray, Hold, Unit}
@@ -64,7 +64,7 @@ refused-only (Unit a on n) h = absurd (h refl)
 abbrev stepOf : Taking → Step
 stepOf g = packetStep (g .state) (g .lane) (g .packet) (length (g .pool)) (length (g .out))
 
-ordered : (g : Taking) → refusalOf (stepOf g) ≡ first 0 (takePacket .tests g)
+ordered : (g : Taking) → refusalOf (stepOf g) ≡ first 0 (numbersOf (takePacket .tests g))
 ordered g = packet-order (g .state) (g .shaped) (g .lane) (g .packet) (length (g .pool)) (length (g .out))
 
 -- what the call leaves, which doesn't depend on how it tells its answer

@@ -9,7 +9,7 @@ use native.Mathlib.Omega.{arith}
 use borrow.Author.Tests.{eq-eqb, ne-eqb}
 use lib.Dec.{eqb, ltb}
 use lib.ListN.{length, getD, set}
-use Rattle.octets.specs.Order.{first}
+use Rattle.octets.specs.Order.{first, numbersOf}
 use Rattle.octets.specs.Output.{put, outputAfter}
 use Rattle.octets.proofs.Order.{either}
 use Rattle.packet.specs.Space.{flags}
@@ -111,7 +111,7 @@ module _ (s : State) (i : ℕ) where
   refused-closing-leaves octets out h = simp (ne-eqb _ 0 h) (refl, refl)
 
 -- ---- Packet to a lane: 24, 11, reading, 12, 13, 14, 15, 16, 17, the repeat test, 18, 19, 20
-pub packet-order : (s : State) → Shaped s → (i : ℕ) (p : List ℕ) (octets room : ℕ) → refusalOf (packetStep s i p octets room) ≡ first 0 (packetTests s i p octets room)
+pub packet-order : (s : State) → Shaped s → (i : ℕ) (p : List ℕ) (octets room : ℕ) → refusalOf (packetStep s i p octets room) ≡ first 0 (numbersOf (packetTests s i p octets room))
 packet-order s shape i p octets room = ordered s shape i p octets room
 
 -- A last or unsegmented packet needs no block: 19 is given only for a packet that begins a group or adds to one

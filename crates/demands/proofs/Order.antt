@@ -8,10 +8,11 @@ use native.Mathlib.Omega.{arith}
 use borrow.Author.Tests.{ltb-true, le-ltb, eqb-true, eqb-false, eq-eqb, ne-eqb, not-true, not-false}
 use lib.Dec.{eqb, ltb, leb}
 use lib.ListN.{getD, set}
-use Rattle.octets.specs.Order.{Test, _gives_, first}
-use Rattle.octets.proofs.Order.{either, first-append, Numbers, numbers-append, first-unless}
+use Rattle.octets.specs.Order.{Test, _gives_, first, numbersOf}
+use Rattle.octets.proofs.Order.{either, first-append, Numbers, numbers-append, numbers-of-append, first-unless}
 use Rattle.packet.specs.Space.{flags, count}
 use Rattle.reading.specs.Reading.{isSpace, readingTests, refusal}
+use Rattle.reading.proofs.Exactly.{in-order}
 use Rattle.record.specs.Record.{mostPackets}
 use Rattle.marks.specs.Blocks.{blocksFor}
 use Rattle.lane.specs.declared.Lane.{Lane}
@@ -98,21 +99,25 @@ module _ (ls : List Lane) (i room : ℕ) where
           (λ on. simp (e, g, on, and-false) (to-stray a))))
 
 -- ---- all tests: reading and 12 to 17 come to `fault`, and where that is 0 the rest is asked
-reading-numbers : (p : List ℕ) → Numbers (readingTests p)
+reading-numbers : (p : List ℕ) → Numbers (numbersOf (readingTests p))
 unfolding readingTests
 reading-numbers p = either (isSpace p) (λ e. simp e (omega arith)) (λ e. simp e (omega arith))
 
-lane-numbers : (t : Terms) (p : List ℕ) → Numbers (laneTests t p)
+lane-numbers : (t : Terms) (p : List ℕ) → Numbers (numbersOf (laneTests t p))
 lane-numbers t p = omega arith
 
-faults : (t : Terms) (p : List ℕ) (rest : List (Test ℕ)) → first 0 (readingTests p ++ laneTests t p ++ rest) ≡ cond (not (eqb (fault t p) 0)) (fault t p) (first 0 rest)
-unfolding fault refusal
+faults : (t : Terms) (p : List ℕ) (rest : List (Test (List ℕ)))
+    → first 0 (numbersOf (readingTests p ++ laneTests t p ++ rest)) ≡ cond (not (eqb (fault t p) 0)) (fault t p) (first 0 (numbersOf rest))
+unfolding refusal fault
 faults t p rest =
-    let same : first 0 (readingTests p ++ laneTests t p) ≡ fault t p = first-append 0 (readingTests p) (laneTests t p) ∙ first-unless (first 0 (laneTests t p)) (readingTests p) (reading-numbers p) in
-    first-append 0 (readingTests p ++ laneTests t p) rest
-    ∙ first-unless (first 0 rest) (readingTests p ++ laneTests t p) (numbers-append (readingTests p) (laneTests t p) (reading-numbers p) (lane-numbers t p)) ∙ rw same
+    let read = numbersOf (readingTests p) in
+    let lane = numbersOf (laneTests t p) in
+    let same : first 0 (read ++ lane) ≡ fault t p = first-append 0 read lane ∙ first-unless (first 0 lane) read (reading-numbers p) ∙ rw (in-order p) in
+    rw (numbers-of-append (readingTests p ++ laneTests t p) rest, numbers-of-append (readingTests p) (laneTests t p))
+    (first-append 0 (read ++ lane) (numbersOf rest)
+    ∙ first-unless (first 0 (numbersOf rest)) (read ++ lane) (numbers-append read lane (reading-numbers p) (lane-numbers t p)) ∙ rw same)
 
-pub ordered : (s : State) → Shaped s → (i : ℕ) (p : List ℕ) (octets room : ℕ) → refusalOf (packetStep s i p octets room) ≡ first 0 (packetTests s i p octets room)
+pub ordered : (s : State) → Shaped s → (i : ℕ) (p : List ℕ) (octets room : ℕ) → refusalOf (packetStep s i p octets room) ≡ first 0 (numbersOf (packetTests s i p octets room))
 unfolding packetStep packetPlan acceptedPlan settle
 ordered s shape i p octets room =
     let l : Lane = laneAt s i in
@@ -134,7 +139,7 @@ module _ (s : State) (i : ℕ) (p : List ℕ) (octets room : ℕ) where
   abbrev h : ℕ
   h = wouldHold own p
 
-  pub not-19 : (own .opened ≡ true → (h ≤ own .settings .cap) × (within (lanesWith s i p) ≡ true)) → Not19 (first 0 (packetTests s i p octets room))
+  pub not-19 : (own .opened ≡ true → (h ≤ own .settings .cap) × (within (lanesWith s i p) ≡ true)) → Not19 (first 0 (numbersOf (packetTests s i p octets room)))
   not-19 fits =
       of-either Not19 (unsound s octets) (λ a z. omega arith)
       (λ a. of-either Not19 (not (own .opened)) (λ b z. omega arith)
@@ -148,5 +153,5 @@ module _ (s : State) (i : ℕ) (p : List ℕ) (octets room : ℕ) where
       (λ g. of-either Not19 (ltb room (wouldWrite own p)) (λ j z. omega arith) (λ j z. omega arith)))))))))
 
   -- so of one that would hold no more than its share
-  pub room-in-share : Sound s → h ≤ own .settings .share → Not19 (first 0 (packetTests s i p octets room))
+  pub room-in-share : Sound s → h ≤ own .settings .share → Not19 (first 0 (numbersOf (packetTests s i p octets room)))
   room-in-share k few = not-19 (λ o. (omega (arith, is-fine own (lane-fine s k i) .legal o .share), share-fits (s .lanes) i o (wouldGroup own p) few (k .room)))

@@ -1,15 +1,13 @@
 -- What makes an entry meet demand 1: its number is what its order of tests gives, and where that isn't 0 nothing is changed.
 use Prim.Native.Nat.{ℕ}
-use mathlib.Core.Path.{_≡_, refl, sym, ap, _∙_}
-use mathlib.Core.List.{List}
-use borrow.Author.Tests.{ne-eqb, eqb-true}
-use lib.Dec.{eqb}
-use Rattle.octets.specs.Order.{first}
-use Rattle.octets.specs.Output.{answer, leading, unlessRefused}
-use Rattle.octets.proofs.Order.{either, exactly}
+use mathlib.Core.Path.{_≡_, refl, sym, _∙_}
+use borrow.Author.Tests.{ne-eqb}
+use Rattle.octets.specs.Order.{first, numbersOf}
+use Rattle.octets.specs.Output.{unlessRefused}
+use Rattle.octets.proofs.Order.{exactly}
 use Rattle.demands.specs.Entry.{Entry, Demand1}
 
-module _ (e : Entry) (number-for : e .Given → ℕ) (ordered : (g : e .Given) → number-for g ≡ first 0 (e .tests g)) where
+module _ (e : Entry) (number-for : e .Given → ℕ) (ordered : (g : e .Given) → number-for g ≡ first 0 (numbersOf (e .tests g))) where
   pub demand : ((g : e .Given) → (a : e .Answer) × ((l : e .Lent) × e .Permits g a l))
       → ((g : e .Given) (a : e .Answer) (l : e .Lent) → e .Permits g a l → (e .number a ≡ number-for g) × ((number-for g ≡ 0 → ⊥) → l ≡ e .before g))
       → ((g : e .Given) (a b : e .Answer) (l m : e .Lent) → e .Permits g a l → e .Permits g b m → (a ≡ b) × (l ≡ m))
@@ -17,18 +15,12 @@ module _ (e : Entry) (number-for : e .Given → ℕ) (ordered : (g : e .Given) �
   demand answers says one = record {
     answers = answers;
     exactly = λ g a l p n.
-        let given : e .number a ≡ first 0 (e .tests g) = says g a l p .0 ∙ ordered g in
-        let law = exactly 0 (e .tests g) n in
+        let given : e .number a ≡ first 0 (numbersOf (e .tests g)) = says g a l p .0 ∙ ordered g in
+        let law = exactly 0 (numbersOf (e .tests g)) n in
         (λ z. law .0 (sym given ∙ z), λ why. given ∙ law .1 why);
     unchanged = λ g a l p refused. says g a l p .1 (λ z. refused (says g a l p .0 ∙ z));
     one-answer = one;
   }
-
--- what is told begins with the number
-pub leads : (number : ℕ) (values told : List ℕ) → told ≡ answer number values → leading told ≡ number
-leads number values told e = either (eqb number 0)
-    (λ t. ap leading e ∙ simp t (sym (eqb-true number 0 t)))
-    (λ f. ap leading e ∙ simp f refl)
 
 -- something lent is left alone by a refusal
 pub left-alone : {A : Type 0} (number : ℕ) (new old x : A) → x ≡ unlessRefused number new old → (number ≡ 0 → ⊥) → x ≡ old

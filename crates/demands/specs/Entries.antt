@@ -5,7 +5,6 @@ use Prim.{Unit}
 use mathlib.Core.Path.{_≡_}
 use mathlib.Core.List.{List}
 use lib.ListN.{length, drop}
-use Rattle.octets.specs.Order.{numbersOf}
 use Rattle.octets.specs.Output.{leading}
 use Rattle.packet.specs.declared.Packet.{Packet}
 use Rattle.reading.specs.Reading.{readingTests, reading}
@@ -82,7 +81,7 @@ writeSpace = record {
   number = λ a. leading (writingTold.told a);
   tests = λ g. spaceTests (g .packetType) (g .secondary) (g .apid) (g .flags) (g .count) (length (g .field)) (length (g .out));
   Permits = λ g a out.
-      (writingTold.told a ≡ spaceTold (g .packetType) (g .secondary) (g .apid) (g .flags) (g .count) (g .field) (g .out))
+      (writingTold.told a ≡ spaceTold (g .packetType) (g .secondary) (g .apid) (g .flags) (g .count) (length (g .field)) (length (g .out)))
       × (out ≡ spaceAfter (g .packetType) (g .secondary) (g .apid) (g .flags) (g .count) (g .field) (g .out));
 }
 
@@ -102,7 +101,7 @@ writeEncapsulation = record {
   number = λ a. leading (writingTold.told a);
   tests = λ g. encapTests (g .protocol) (g .user) (g .extension) (length (g .content)) (length (g .out));
   Permits = λ g a out.
-      (writingTold.told a ≡ encapTold (g .protocol) (g .user) (g .extension) (g .content) (g .out))
+      (writingTold.told a ≡ encapTold (g .protocol) (g .user) (g .extension) (length (g .content)) (length (g .out)))
       × (out ≡ encapAfter (g .protocol) (g .user) (g .extension) (g .content) (g .out));
 }
 
@@ -114,7 +113,7 @@ readRecord = record {
   Lent = Unit {0};
   before = λ s. tt;
   number = λ a. leading (toldRead a);
-  tests = λ s. numbersOf (recordTests s);
+  tests = recordTests;
   Permits = λ s a l. toldRead a ≡ recordReading s;
 }
 
@@ -126,7 +125,7 @@ readRecordFile = record {
   Lent = Unit {0};
   before = λ s. tt;
   number = λ a. leading (toldFile a);
-  tests = λ s. numbersOf (fileTests s);
+  tests = fileTests;
   Permits = λ s a l. toldFile a ≡ fileReading s;
 }
 
@@ -142,7 +141,7 @@ writeRecord = record {
   Lent = List ℕ;
   before = λ g. g .out;
   number = λ a. leading (toldWritten a);
-  tests = λ g. numbersOf (writingTests (g .credit) (length (g .out)));
+  tests = λ g. writingTests (g .credit) (length (g .out));
   Permits = λ g a out. (toldWritten a ≡ recordTold (g .credit) (length (g .out))) × (out ≡ recordAfter (g .credit) (g .out));
 }
 

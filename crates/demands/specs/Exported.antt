@@ -6,7 +6,7 @@ use mathlib.Core.Path.{_≡_}
 use mathlib.Core.Bool.{Bool}
 use mathlib.Core.List.{List}
 use lib.ListN.{length}
-use Rattle.reading.specs.Reading.{readingTests, refusal}
+use Rattle.reading.specs.Reading.{refusal}
 use Rattle.writing.specs.Space.{spaceRefusal, spaceAfter}
 use Rattle.writing.specs.Encapsulation.{encapRefusal, encapAfter}
 use Rattle.record.specs.Reading.{recordRefusal, fileRefusal}
@@ -31,7 +31,7 @@ readPacketC = record {
   Lent = List ℕ;
   before = λ g. g .numbers;
   number = λ a. a;
-  tests = λ g. readingTests (g .octets);
+  tests = λ g. readPacket .tests (g .octets);
   Permits = λ g a numbers. (a ≡ refusal (g .octets)) × (numbers ≡ packetAfter (g .octets) (g .numbers));
 }
 

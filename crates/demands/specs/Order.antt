@@ -53,15 +53,15 @@ wouldWrite l p =
 -- Packet to a lane: 24, 11, reading, 12, 13, 14, 15, 16, 17, the repeat test, 18, 19, 20. A Repeat is no refusal, and no later test is asked. A lane that
 -- would hold h is refused 19 exactly when h exceeds its cap, or the lanes would not be within the pool: h or its share, the larger, plus the same for every
 -- other open lane, would exceed 64
-abbrev pub packetTests : State → ℕ → List ℕ → ℕ → ℕ → List (Test ℕ)
+abbrev pub packetTests : State → ℕ → List ℕ → ℕ → ℕ → List (Test (List ℕ))
 packetTests s i p size room =
-    (unsound s size gives 24)
-    ∷ (not (laneAt s i .opened) gives 11)
+    (unsound s size gives (24 ∷ []))
+    ∷ (not (laneAt s i .opened) gives (11 ∷ []))
     ∷ (readingTests p
     ++ laneTests (termsOf (laneAt s i)) p
-    ++ (repeats (laneAt s i) (count p) gives 0)
-    ∷ (leb mostPackets (laneAt s i .packets) gives 18)
-    ∷ (ltb (laneAt s i .settings .cap) (wouldHold (laneAt s i) p) gives 19)
-    ∷ (not (within (lanesWith s i p)) gives 19)
-    ∷ (ltb room (wouldWrite (laneAt s i) p) gives 20)
+    ++ (repeats (laneAt s i) (count p) gives (0 ∷ []))
+    ∷ (leb mostPackets (laneAt s i .packets) gives (18 ∷ []))
+    ∷ (ltb (laneAt s i .settings .cap) (wouldHold (laneAt s i) p) gives (19 ∷ []))
+    ∷ (not (within (lanesWith s i p)) gives (19 ∷ []))
+    ∷ (ltb room (wouldWrite (laneAt s i) p) gives (20 ∷ []))
     ∷ [])

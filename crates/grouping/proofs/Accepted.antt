@@ -35,7 +35,7 @@ module _ (t : Terms) (s : List ℕ) where
   of-whole (encapsulation w h) e = absurd (eqb-false (version s) 7 e (w .0 .0 .0 .0 .0 .1))
 
   pub accepted : fault t s ≡ 0 → Accepted t s
-  unfolding fault size
+  unfolding refusal fault size
   accepted e =
       let a = passes (not (eqb (refusal s) 0)) (refusal s) _ (λ z. omega (arith, eqb-false (refusal s) 0 (not-true _ z))) e in
       let b = passes (ltb (size s) (length s)) 12 _ (λ z. omega arith) (a .1) in
@@ -59,7 +59,7 @@ module _ (t : Terms) (s : List ℕ) where
 
   -- reading refuses by 1 to 7
   pub fault-most : fault t s ≤ 17
-  unfolding fault
+  unfolding refusal fault
   fault-most =
       let few : refusal s ≤ 7 = ⊎-elim (λ w. omega (arith, whole-gives w)) (λ k. omega (arith, gives (k .1), numbered (k .1))) (verdict s) in
       most (not (eqb (refusal s) 0)) (omega arith) (most (ltb (size s) (length s)) (omega arith) (most (isEncapsulation s) (omega arith)

@@ -51,7 +51,7 @@ long-enough terms k n t x a d e z =
 module _ (terms : Terms) (s : List ℕ) where
   -- what is no Space Packet is refused
   other : (p : Packet) → OneOf (1 ∷ 2 ∷ []) (tagOf the-type p) → Says p s → (otherRefusal p (length s) ≡ fault terms s) × (0 < fault terms s)
-  unfolding otherRefusal fault
+  unfolding refusal otherRefusal fault
   other (Space t x a f c n) k w = absurd (⊎-elim (λ e. omega arith) (λ e. omega arith) k)
   other (Encapsulation i u x h n) k w =
       let z = size-told (Encapsulation i u x h n) s w (w .0) .1 in

@@ -4,9 +4,9 @@ use mathlib.Core.Bool.{Bool, not, _&&_, _||_}
 use mathlib.Core.List.{List, [], _∷_}
 use lib.ListN.{length, drop}
 use lib.Dec.{eqb, ltb}
-use Rattle.octets.specs.Order.{Test, _gives_, first}
+use Rattle.octets.specs.Order.{Test, _gives_, first, numbersOf}
 use Rattle.packet.specs.Space.{packetType, secondary, apid, dataOctets}
-use Rattle.reading.specs.Reading.{isEncapsulation, size, refusal, content}
+use Rattle.reading.specs.Reading.{isEncapsulation, size, reading, refusal, content}
 use Rattle.lane.specs.declared.Settings.{Settings}
 use Rattle.lane.specs.declared.Lane.{Lane}
 use Rattle.grouping.specs.declared.Terms.{Terms}
@@ -20,22 +20,22 @@ abbrev pub termsOf : Lane → Terms
 termsOf l = record { settings = l .settings }
 
 -- 12, 13, 14, 15, 16, 17
-abbrev pub laneTests : Terms → List ℕ → List (Test ℕ)
+abbrev pub laneTests : Terms → List ℕ → List (Test (List ℕ))
 laneTests t s =
-    (ltb (size s) (length s) gives 12)
-    ∷ (isEncapsulation s gives 13)
-    ∷ (eqb (packetType s) 1 gives 14)
-    ∷ (not (eqb (apid s) (t .settings .apid)) gives 15)
-    ∷ (misflags (secondary s) (t .settings .secondary) gives 16)
-    ∷ (ltb (dataOctets s) (t .settings .secondary) gives 17)
+    (ltb (size s) (length s) gives (12 ∷ []))
+    ∷ (isEncapsulation s gives (13 ∷ []))
+    ∷ (eqb (packetType s) 1 gives (14 ∷ []))
+    ∷ (not (eqb (apid s) (t .settings .apid)) gives (15 ∷ []))
+    ∷ (misflags (secondary s) (t .settings .secondary) gives (16 ∷ []))
+    ∷ (ltb (dataOctets s) (t .settings .secondary) gives (17 ∷ []))
     ∷ []
 
 -- reading, then these
-abbrev pub faultTests : Terms → List ℕ → List (Test ℕ)
-faultTests t s = (not (eqb (refusal s) 0) gives refusal s) ∷ laneTests t s
+abbrev pub faultTests : Terms → List ℕ → List (Test (List ℕ))
+faultTests t s = (not (eqb (refusal s) 0) gives reading s) ∷ laneTests t s
 
 unfoldable pub fault : Terms → List ℕ → ℕ
-fault t s = first 0 (faultTests t s)
+fault t s = first 0 (numbersOf (faultTests t s))
 
 -- User data is the data field without the secondary octets
 unfoldable pub userData : Settings → List ℕ → List ℕ

@@ -4,7 +4,7 @@ use mathlib.Core.Bool.{true, false, cond, not}
 use mathlib.Core.List.{List, [], _∷_}
 use lib.ListN.{getD, set}
 use lib.Dec.{ltb}
-use Rattle.octets.specs.Order.{Test, _gives_, first}
+use Rattle.octets.specs.Order.{Test, _gives_, first, numbersOf}
 use Rattle.record.specs.Record.{recordSize}
 use Rattle.lane.specs.declared.Settings.{Settings}
 use Rattle.lane.specs.declared.Lane.{Lane}
@@ -23,29 +23,29 @@ openedWith settings =
     record { opened = true; settings = settings; units = 0; packets = 0; missing = 0; broken = 0; last = 0; grouped = false; octets = 0 }
 
 -- Opening: 24, 11, 21, 22, 23; size is that of the lent pool
-abbrev pub openingTests : State → ℕ → Settings → ℕ → List (Test ℕ)
+abbrev pub openingTests : State → ℕ → Settings → ℕ → List (Test (List ℕ))
 openingTests s i settings size =
-    (unsound s size gives 24)
-    ∷ (ltb 7 i gives 11)
-    ∷ (laneAt s i .opened gives 21)
-    ∷ (illegal settings gives 22)
-    ∷ (not (within (set (s .lanes) i (openedWith settings))) gives 23)
+    (unsound s size gives (24 ∷ []))
+    ∷ (ltb 7 i gives (11 ∷ []))
+    ∷ (laneAt s i .opened gives (21 ∷ []))
+    ∷ (illegal settings gives (22 ∷ []))
+    ∷ (not (within (set (s .lanes) i (openedWith settings))) gives (23 ∷ []))
     ∷ []
 
 unfoldable pub openingRefusal : State → ℕ → Settings → ℕ → ℕ
-openingRefusal s i settings size = first 0 (openingTests s i settings size)
+openingRefusal s i settings size = first 0 (numbersOf (openingTests s i settings size))
 
 -- Closing: 24, 11, 9, 25; room is the output's
-abbrev pub closingTests : State → ℕ → ℕ → ℕ → List (Test ℕ)
+abbrev pub closingTests : State → ℕ → ℕ → ℕ → List (Test (List ℕ))
 closingTests s i size room =
-    (unsound s size gives 24)
-    ∷ (not (laneAt s i .opened) gives 11)
-    ∷ (ltb room recordSize gives 9)
-    ∷ (not (talliesPossible (laneAt s i)) gives 25)
+    (unsound s size gives (24 ∷ []))
+    ∷ (not (laneAt s i .opened) gives (11 ∷ []))
+    ∷ (ltb room recordSize gives (9 ∷ []))
+    ∷ (not (talliesPossible (laneAt s i)) gives (25 ∷ []))
     ∷ []
 
 unfoldable pub closingRefusal : State → ℕ → ℕ → ℕ → ℕ
-closingRefusal s i size room = first 0 (closingTests s i size room)
+closingRefusal s i size room = first 0 (numbersOf (closingTests s i size room))
 
 -- a plan that asks for room gets it where the lanes are within once lane i has an open group of n octets
 unfoldable pub settle : List Lane → ℕ → Plan → Step

@@ -1,14 +1,14 @@
 -- A test has two outcomes: what a proof needs to follow an order of refusals; and an answer is given exactly when it has its cause.
 use Prim.Native.Nat.{ℕ, _<_}
 use Prim.{Unit}
-use mathlib.Core.Path.{_≡_, refl, sym, ap, subst}
+use mathlib.Core.Path.{_≡_, refl, sym, ap, subst, _∙_}
 use mathlib.Core.List.{List, [], _∷_, _++_}
 use mathlib.Core.Bool.{Bool, true, false, cond, not, _&&_, _||_, true≢false}
 use native.Mathlib.Omega.{arith}
-use borrow.Author.Tests.{eq-eqb, ne-eqb, eqb-true, eqb-false}
+use borrow.Author.Tests.{eq-eqb, ne-eqb}
 use lib.Dec.{eqb}
 use lib.ListN.{length}
-use Rattle.octets.specs.Output.{answer, leading, unlessRefused}
+use Rattle.octets.specs.Output.{leading, unlessRefused}
 use Rattle.octets.specs.Order.{Test, _gives_, first, Because, none, holds, fails, numbersOf}
 
 pub either : {A : Type 0} (b : Bool) → (b ≡ true → A) → (b ≡ false → A) → A
@@ -59,7 +59,12 @@ first-unless rest [] t = refl
 first-unless rest ((true gives n) ∷ tests) t = simp (ne-eqb n 0 (λ z. omega (arith, t .0)))
 first-unless rest ((false gives n) ∷ tests) t = first-unless rest tests (t .1)
 
--- ---- the number of what is told is what the order of the numbers gives
+-- ---- the order of the numbers alone
+pub numbers-of-append : (tests more : List (Test (List ℕ))) → numbersOf (tests ++ more) ≡ numbersOf tests ++ numbersOf more
+numbers-of-append [] more = refl
+numbers-of-append ((b gives told) ∷ tests) more = ap (λ rest. (b gives leading told) ∷ rest) (numbers-of-append tests more)
+
+-- the number of what is told is what the order of the numbers gives
 pub leads-first : (otherwise : List ℕ) (tests : List (Test (List ℕ))) → leading (first otherwise tests) ≡ first (leading otherwise) (numbersOf tests)
 leads-first otherwise [] = refl
 leads-first otherwise ((true gives told) ∷ tests) = refl
@@ -76,17 +81,22 @@ told-number v rest [] some number e = absurd (omega (arith, ap length e))
 told-number v rest ((true gives t) ∷ tests) some number e = omega (arith, ap leading e, some .0)
 told-number v rest ((false gives t) ∷ tests) some number e = told-number v rest tests (some .1) number e
 
--- ---- what was told says whether the call refused
-module _ (refusal : ℕ) (values : List ℕ) where
-  pub tells-values : (told : List ℕ) → 0 ∷ told ≡ answer refusal values → (refusal ≡ 0) × (told ≡ values)
-  tells-values told e =
-      either (eqb refusal 0) (λ t. (eqb-true refusal 0 t, let z = simp t at e in cc))
-      (λ f. absurd (eqb-false refusal 0 f (let z = simp f at e in cc)))
+-- the other way round: a number that was settled first is what is told, where each test tells its number alone
+abbrev pub Alone : List (Test (List ℕ)) → Type 0
+Alone [] = Unit {0}
+Alone ((b gives told) ∷ tests) = (told ≡ leading told ∷ []) × Alone tests
 
-  pub tells-refusal : (v number : ℕ) (rest : List ℕ) → values ≡ v ∷ rest → number ∷ [] ≡ answer refusal values → (refusal ≡ number) × (0 < refusal)
-  tells-refusal v number rest some e =
-      either (eqb refusal 0) (λ t. let z : _≡_ {A = ℕ} 0 1 = (let y = simp t at e in cc) in absurd (omega arith))
-      (λ f. (let z = simp f at e in cc, omega (arith, eqb-false refusal 0 f)))
+pub settled-number : (values : List ℕ) (tests : List (Test (List ℕ))) → Alone tests → (k : ℕ) → k ≡ leading (first (0 ∷ values) tests) → (k ≡ 0 → ⊥)
+    → k ∷ [] ≡ first (0 ∷ values) tests
+settled-number values [] alone k e u = absurd (u e)
+settled-number values ((true gives told) ∷ tests) alone k e u = ap (λ n. n ∷ []) e ∙ sym (alone .0)
+settled-number values ((false gives told) ∷ tests) alone k e u = settled-number values tests (alone .1) k e u
+
+pub settled-values : (values : List ℕ) (tests : List (Test (List ℕ))) → Numbers (numbersOf tests) → leading (first (0 ∷ values) tests) ≡ 0
+    → 0 ∷ values ≡ first (0 ∷ values) tests
+settled-values values [] some e = refl
+settled-values values ((true gives told) ∷ tests) some e = absurd (omega (arith, e, some .0))
+settled-values values ((false gives told) ∷ tests) some e = settled-values values tests (some .1) e
 
 -- ---- the two ways in which something lent ends
 module _ {A : Type 0} (refusal : ℕ) (new old : A) where

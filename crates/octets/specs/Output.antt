@@ -1,15 +1,11 @@
 -- What a call tells, and what it leaves of something that was lent to it. A refusal is the paper's number, and 0 stands for none.
 use Prim.Native.Nat.{ℕ, _+_}
-use mathlib.Core.List.{List, [], _∷_, _++_}
+use mathlib.Core.List.{List, _++_}
 use mathlib.Core.Bool.{cond}
 use lib.ListN.{length, take, drop, getD}
 use lib.Dec.{eqb, leb}
 
--- what a call tells: 0 and its values, or the refusal
-abbrev pub answer : ℕ → List ℕ → List ℕ
-answer refusal values = cond (eqb refusal 0) (0 ∷ values) (refusal ∷ [])
-
--- the refusal alone: what is told begins with it, or with 0
+-- what a call tells is a list of numbers: 0 and its values; or the refusal and what belongs to it. The refusal alone is the number in front
 abbrev pub leading : List ℕ → ℕ
 leading told = getD told 0 0
 
@@ -25,9 +21,6 @@ put d at text = take at d ++ text ++ drop (at + length text) d
 unfoldable pub putIfFits : List ℕ → ℕ → List ℕ → List ℕ
 putIfFits d at text = cond (leb (at + length text) (length d)) (put d at text) d
 
--- a writer of some text tells its octets, and leaves it at the front of the output
-unfoldable pub writerTells : ℕ → List ℕ → List ℕ
-writerTells refusal text = answer refusal (length text ∷ [])
-
+-- a writer leaves its text at the front of the output
 unfoldable pub outputAfter : ℕ → List ℕ → List ℕ → List ℕ
 outputAfter refusal text out = unlessRefused refusal (put out 0 text) out

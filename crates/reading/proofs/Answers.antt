@@ -1,12 +1,14 @@
 -- What the reader's enum says of the octets, case by case, from the one equation of its promise; and that the equation fixes the answer.
 use Prim.Native.Nat.{ℕ, _-_, _≤_, _<_}
-use mathlib.Core.Path.{_≡_, refl, sym, _∙_}
+use mathlib.Core.Path.{_≡_, refl, sym, ap, _∙_}
+use mathlib.Core.Logic.{⊎-elim}
 use mathlib.Core.List.{List, [], _∷_}
 use mathlib.Core.Bool.{Bool, true, false, cond}
 use native.Mathlib.Omega.{arith}
 use borrow.Author.Tests.{eq-eqb, ne-eqb, eqb-true, eqb-false}
 use lib.Dec.{eqb}
 use lib.ListN.{length, take, drop}
+use Rattle.octets.specs.Output.{leading}
 use Rattle.packet.specs.Space.{version, packetType, secondary, apid, flags, count, dataOctets}
 use Rattle.packet.specs.Encapsulation.{protocol, user, extension, encapHeader, encapSize}
 use Rattle.reading.specs.Reading.{header, size, refusal, fields, reading, content, contentAt}
@@ -14,6 +16,8 @@ use Rattle.packet.specs.Told.{told, numberOf, sizeOf, headerOf}
 use Rattle.packet.specs.declared.Packet.{Packet}
 use Rattle.packet.specs.declared.Packet.the-variants.{Space, Encapsulation, Refused}
 use Rattle.packet.proofs.Answers.{told-fixes}
+use Rattle.reading.specs.Causes.{Cause}
+use Rattle.reading.proofs.Exactly.{gives, whole-gives, numbered, verdict, refused, accepted}
 use Rattle.reading.proofs.Within.{Within, within}
 
 -- the promise permits one answer
@@ -28,23 +32,27 @@ Says (Encapsulation p u x h n) s =
     (refusal s ≡ 0) × (version s ≡ 0 → ⊥) × (p ≡ protocol s) × (u ≡ user s) × (x ≡ extension s) × (h ≡ encapHeader s) × (n ≡ encapSize s - encapHeader s)
 Says (Refused k) s = (refusal s ≡ k) × (0 < k)
 
--- the equation at the two tests in it: whether there is no refusal, and whether the packet is a Space Packet
-at-tests : (p : Packet) (s : List ℕ) (good kind : Bool) → eqb (refusal s) 0 ≡ good → eqb (version s) 0 ≡ kind
-    → told p ≡ cond good (0 ∷ cond kind (0 ∷ packetType s ∷ secondary s ∷ apid s ∷ flags s ∷ count s ∷ dataOctets s ∷ []) (7 ∷ protocol s ∷ user s ∷ extension s ∷ encapHeader s ∷ (encapSize s - encapHeader s) ∷ [])) (refusal s ∷ [])
+-- of a whole packet, at the test for a Space Packet; and of one that is refused
+at-whole : (p : Packet) (s : List ℕ) (kind : Bool) → refusal s ≡ 0 → eqb (version s) 0 ≡ kind
+    → told p ≡ 0 ∷ cond kind (0 ∷ packetType s ∷ secondary s ∷ apid s ∷ flags s ∷ count s ∷ dataOctets s ∷ []) (7 ∷ protocol s ∷ user s ∷ extension s ∷ encapHeader s ∷ (encapSize s - encapHeader s) ∷ [])
     → Says p s
-at-tests (Space t x a f c n) s true true g k e = (eqb-true _ _ g, eqb-true _ _ k, cc, cc, cc, cc, cc, cc)
-at-tests (Encapsulation p u x h n) s true false g k e = (eqb-true _ _ g, eqb-false _ _ k, cc, cc, cc, cc, cc)
-at-tests (Refused k) s false v g w e = let q : k ≡ refusal s = cc in (sym q, omega (arith, eqb-false (refusal s) 0 g))
-at-tests (Space t x a f c n) s true false g k e = let z : _≡_ {A = ℕ} 0 7 = cc in absurd (omega arith)
-at-tests (Space t x a f c n) s false v g k e = let z : _≡_ {A = ℕ} 0 1 = cc in absurd (omega arith)
-at-tests (Encapsulation p u x h n) s true true g k e = let z : _≡_ {A = ℕ} 0 7 = cc in absurd (omega arith)
-at-tests (Encapsulation p u x h n) s false v g k e = let z : _≡_ {A = ℕ} 0 1 = cc in absurd (omega arith)
-at-tests (Refused k) s true true g w e = let z : _≡_ {A = ℕ} 0 1 = cc in absurd (omega arith)
-at-tests (Refused k) s true false g w e = let z : _≡_ {A = ℕ} 0 1 = cc in absurd (omega arith)
+at-whole (Space t x a f c n) s true g k e = (g, eqb-true _ _ k, cc, cc, cc, cc, cc, cc)
+at-whole (Encapsulation p u x h n) s false g k e = (g, eqb-false _ _ k, cc, cc, cc, cc, cc)
+at-whole (Space t x a f c n) s false g k e = let z : _≡_ {A = ℕ} 0 7 = cc in absurd (omega arith)
+at-whole (Encapsulation p u x h n) s true g k e = let z : _≡_ {A = ℕ} 0 7 = cc in absurd (omega arith)
+at-whole (Refused k) s true g w e = let z : _≡_ {A = ℕ} 0 1 = cc in absurd (omega arith)
+at-whole (Refused k) s false g w e = let z : _≡_ {A = ℕ} 0 1 = cc in absurd (omega arith)
+
+at-cause : (p : Packet) (s : List ℕ) {n : ℕ} → Cause s n → told p ≡ n ∷ [] → Says p s
+at-cause (Refused k) s why e = let q : k ≡ _ = ap leading e in (gives why ∙ sym q, omega (arith, numbered why))
+at-cause (Space t x a f c n) s why e = absurd (omega (arith, ap leading e, numbered why))
+at-cause (Encapsulation p u x h n) s why e = absurd (omega (arith, ap leading e, numbered why))
 
 pub says : (p : Packet) (s : List ℕ) → told p ≡ reading s → Says p s
-unfolding reading fields
-says p s e = at-tests p s (eqb (refusal s) 0) (eqb (version s) 0) refl refl e
+unfolding fields
+says p s e =
+    ⊎-elim (λ w. at-whole p s (eqb (version s) 0) (whole-gives w) refl (e ∙ sym (accepted w)))
+    (λ why. at-cause p s (why .1) (e ∙ sym (refused (why .1)))) (verdict s)
 
 pub number-told : (p : Packet) (s : List ℕ) → Says p s → numberOf p ≡ refusal s
 number-told (Space t x a f c n) s w = sym (w .0)

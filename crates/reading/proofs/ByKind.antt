@@ -9,30 +9,30 @@ use lib.ListN.{length}
 use Rattle.octets.specs.Order.{Test, _gives_, first}
 use Rattle.packet.specs.Space.{version, spaceHeader, spaceSize, flaggedIdle}
 use Rattle.packet.specs.Encapsulation.{limit, encapHeader, encapSize, misnamed, emptyNamed}
-use Rattle.reading.specs.Reading.{header, size, readingTests, refusal}
+use Rattle.reading.specs.Reading.{header, size, readingTests, fields, reading}
 use Rattle.reading.specs.Causes.{Version}
 
-abbrev pub spaceTests : List ℕ → List (Test ℕ)
+abbrev pub spaceTests : List ℕ → List (Test (List ℕ))
 spaceTests s =
-    (ltb (length s) spaceHeader gives 1)
-    ∷ (flaggedIdle s gives 3)
-    ∷ (ltb (length s) (spaceSize s) gives 1)
+    (ltb (length s) spaceHeader gives (1 ∷ []))
+    ∷ (flaggedIdle s gives (3 ∷ []))
+    ∷ (ltb (length s) (spaceSize s) gives (1 ∷ []))
     ∷ []
 
-abbrev pub encapTests : List ℕ → List (Test ℕ)
+abbrev pub encapTests : List ℕ → List (Test (List ℕ))
 encapTests s =
-    (ltb (length s) (encapHeader s) gives 1)
-    ∷ (misnamed s gives 7)
-    ∷ (ltb (encapSize s) (encapHeader s) gives 4)
-    ∷ (ltb limit (encapSize s) gives 5)
-    ∷ (emptyNamed s gives 6)
-    ∷ (ltb (length s) (encapSize s) gives 1)
+    (ltb (length s) (encapHeader s) gives (1 ∷ []))
+    ∷ (misnamed s gives (7 ∷ []))
+    ∷ (ltb (encapSize s) (encapHeader s) gives (4 ∷ []))
+    ∷ (ltb limit (encapSize s) gives (5 ∷ []))
+    ∷ (emptyNamed s gives (6 ∷ []))
+    ∷ (ltb (length s) (encapSize s) gives (1 ∷ []))
     ∷ []
 
-pub space-refusal : (s : List ℕ) → Version 0 s → refusal s ≡ first 0 (spaceTests s)
-unfolding refusal readingTests header size
-space-refusal s (some, v) = simp (ne-eqb (length s) 0 (λ e. omega arith), eq-eqb (version s) 0 v)
+pub space-reading : (s : List ℕ) → Version 0 s → reading s ≡ first (0 ∷ fields s) (spaceTests s)
+unfolding readingTests reading header size
+space-reading s (some, v) = simp (ne-eqb (length s) 0 (λ e. omega arith), eq-eqb (version s) 0 v)
 
-pub encap-refusal : (s : List ℕ) → Version 7 s → refusal s ≡ first 0 (encapTests s)
-unfolding refusal readingTests header size
-encap-refusal s (some, v) = simp (ne-eqb (length s) 0 (λ e. omega arith), ne-eqb (version s) 0 (λ e. omega arith), eq-eqb (version s) 7 v)
+pub encap-reading : (s : List ℕ) → Version 7 s → reading s ≡ first (0 ∷ fields s) (encapTests s)
+unfolding readingTests reading header size
+encap-reading s (some, v) = simp (ne-eqb (length s) 0 (λ e. omega arith), ne-eqb (version s) 0 (λ e. omega arith), eq-eqb (version s) 7 v)

@@ -1,40 +1,58 @@
--- Each number is given exactly when its cause holds. A cause fixes which tests hold, so the order gives its number (`gives`); and for every
+-- Each number is given exactly when its cause holds. A cause fixes which tests hold, so the order tells its number (`tells`); and for every
 -- list of octets some cause holds or the packet is whole (`verdict`), so a number that is given has its cause.
 use Prim.Native.Nat.{ℕ, _≤_, _<_}
-use mathlib.Core.Path.{_≡_, sym, subst, _∙_}
+use mathlib.Core.Path.{_≡_, sym, ap, subst, _∙_}
 use mathlib.Core.Logic.{_⊎_, inl, inr, ⊎-elim}
 use mathlib.Core.List.{List, [], _∷_}
 use native.Mathlib.Omega.{arith}
 use borrow.Author.Tests.{eq-eqb, ne-eqb, lt-ltb, le-ltb, ltb-true, ltb-false, eqb-true, eqb-false}
 use lib.Dec.{ltb, eqb}
 use lib.ListN.{length}
-use Rattle.octets.proofs.Order.{either}
+use Rattle.octets.specs.Output.{leading}
+use Rattle.octets.specs.Order.{first, numbersOf}
+use Rattle.octets.proofs.Order.{either, leads-first}
 use Rattle.packet.specs.Space.{version, spaceHeader, spaceSize, flaggedIdle}
 use Rattle.packet.specs.Encapsulation.{limit, encapHeader, encapSize, misnamed, emptyNamed}
 use Rattle.reading.specs.Reading.{readingTests, refusal, fields, reading}
 use Rattle.reading.specs.Causes.{Cause, no-octets, no-version, space-header, idle, space-packet, encap-header, names-nothing, less-than-header, over-limit, no-content, encap-packet}
 use Rattle.reading.specs.Causes.{Version, SpaceThere, EncapThere, EncapLong, EncapLimited, Whole, space, encapsulation}
-use Rattle.reading.proofs.ByKind.{space-refusal, encap-refusal}
+use Rattle.reading.proofs.ByKind.{space-reading, encap-reading}
 
+-- what is told
+tells : {s : List ℕ} {n : ℕ} → Cause s n → reading s ≡ n ∷ []
+unfolding readingTests reading
+tells {s} (no-octets e) = simp (eq-eqb (length s) 0 e)
+tells {s} (no-version p u v) = simp (ne-eqb (length s) 0 (λ e. omega arith), ne-eqb (version s) 0 u, ne-eqb (version s) 7 v)
+tells {s} (space-header v h) = space-reading s v ∙ simp (lt-ltb _ _ h)
+tells {s} (idle t h) = space-reading s (t .0) ∙ simp (le-ltb _ _ (t .1), h)
+tells {s} (space-packet (t, i) h) = space-reading s (t .0) ∙ simp (le-ltb _ _ (t .1), i, lt-ltb _ _ h)
+tells {s} (encap-header v h) = encap-reading s v ∙ simp (lt-ltb _ _ h)
+tells {s} (names-nothing t h) = encap-reading s (t .0) ∙ simp (le-ltb _ _ (t .1), h)
+tells {s} (less-than-header (t, m) h) = encap-reading s (t .0) ∙ simp (le-ltb _ _ (t .1), m, lt-ltb _ _ h)
+tells {s} (over-limit ((t, m), l) h) = encap-reading s (t .0) ∙ simp (le-ltb _ _ (t .1), m, le-ltb _ _ l, lt-ltb _ _ h)
+tells {s} (no-content (((t, m), l), o) h) = encap-reading s (t .0) ∙ simp (le-ltb _ _ (t .1), m, le-ltb _ _ l, le-ltb _ _ o, h)
+tells {s} (encap-packet ((((t, m), l), o), e) h) =
+    encap-reading s (t .0) ∙ simp (le-ltb _ _ (t .1), m, le-ltb _ _ l, le-ltb _ _ o, e, lt-ltb _ _ h)
+
+whole-tells : {s : List ℕ} → Whole s → reading s ≡ 0 ∷ fields s
+whole-tells {s} (space (t, i) h) = space-reading s (t .0) ∙ simp (le-ltb _ _ (t .1), i, le-ltb _ _ h)
+whole-tells {s} (encapsulation ((((t, m), l), o), e) h) =
+    encap-reading s (t .0) ∙ simp (le-ltb _ _ (t .1), m, le-ltb _ _ l, le-ltb _ _ o, e, le-ltb _ _ h)
+
+pub refused : {s : List ℕ} {n : ℕ} → Cause s n → n ∷ [] ≡ reading s
+refused why = sym (tells why)
+
+pub accepted : {s : List ℕ} → Whole s → 0 ∷ fields s ≡ reading s
+accepted w = sym (whole-tells w)
+
+-- and the number of it
 pub gives : {s : List ℕ} {n : ℕ} → Cause s n → refusal s ≡ n
-unfolding refusal readingTests
-gives {s} (no-octets e) = simp (eq-eqb (length s) 0 e)
-gives {s} (no-version p u v) = simp (ne-eqb (length s) 0 (λ e. omega arith), ne-eqb (version s) 0 u, ne-eqb (version s) 7 v)
-gives {s} (space-header v h) = space-refusal s v ∙ simp (lt-ltb _ _ h)
-gives {s} (idle t h) = space-refusal s (t .0) ∙ simp (le-ltb _ _ (t .1), h)
-gives {s} (space-packet (t, i) h) = space-refusal s (t .0) ∙ simp (le-ltb _ _ (t .1), i, lt-ltb _ _ h)
-gives {s} (encap-header v h) = encap-refusal s v ∙ simp (lt-ltb _ _ h)
-gives {s} (names-nothing t h) = encap-refusal s (t .0) ∙ simp (le-ltb _ _ (t .1), h)
-gives {s} (less-than-header (t, m) h) = encap-refusal s (t .0) ∙ simp (le-ltb _ _ (t .1), m, lt-ltb _ _ h)
-gives {s} (over-limit ((t, m), l) h) = encap-refusal s (t .0) ∙ simp (le-ltb _ _ (t .1), m, le-ltb _ _ l, lt-ltb _ _ h)
-gives {s} (no-content (((t, m), l), o) h) = encap-refusal s (t .0) ∙ simp (le-ltb _ _ (t .1), m, le-ltb _ _ l, le-ltb _ _ o, h)
-gives {s} (encap-packet ((((t, m), l), o), e) h) =
-    encap-refusal s (t .0) ∙ simp (le-ltb _ _ (t .1), m, le-ltb _ _ l, le-ltb _ _ o, e, lt-ltb _ _ h)
+unfolding refusal
+gives why = ap leading (tells why)
 
 pub whole-gives : {s : List ℕ} → Whole s → refusal s ≡ 0
-whole-gives {s} (space (t, i) h) = space-refusal s (t .0) ∙ simp (le-ltb _ _ (t .1), i, le-ltb _ _ h)
-whole-gives {s} (encapsulation ((((t, m), l), o), e) h) =
-    encap-refusal s (t .0) ∙ simp (le-ltb _ _ (t .1), m, le-ltb _ _ l, le-ltb _ _ o, e, le-ltb _ _ h)
+unfolding refusal
+whole-gives w = ap leading (whole-tells w)
 
 -- a number that is given is one of 1 to 7
 pub numbered : {s : List ℕ} {n : ℕ} → Cause s n → (0 < n) × (n ≤ 7)
@@ -97,11 +115,7 @@ module _ (s : List ℕ) where
   pub exactly-whole : (refusal s ≡ 0 → Whole s) × (Whole s → refusal s ≡ 0)
   exactly-whole = (λ e. ⊎-elim (λ w. w) (λ k. absurd (omega (arith, gives (k .1), numbered (k .1)))) verdict, whole-gives)
 
--- ---- what is told
-pub refused : {s : List ℕ} {n : ℕ} → Cause s n → n ∷ [] ≡ reading s
-unfolding reading
-refused {s} {n} why = rw (gives why) (simp (ne-eqb n 0 (λ z. omega (arith, numbered why))))
-
-pub accepted : {s : List ℕ} → Whole s → 0 ∷ fields s ≡ reading s
-unfolding reading
-accepted {s} w = simp (eq-eqb (refusal s) 0 (whole-gives w))
+-- and it is what the order of the numbers gives
+pub in-order : (s : List ℕ) → refusal s ≡ first 0 (numbersOf (readingTests s))
+unfolding refusal reading
+in-order s = leads-first (0 ∷ fields s) (readingTests s)

@@ -5,7 +5,7 @@ use mathlib.Core.Bool.{Bool, cond, not, _||_}
 use lib.ListN.{length, take, drop}
 use lib.Dec.{ltb, eqb}
 use Rattle.octets.specs.Order.{Test, _gives_, first}
-use Rattle.octets.specs.Output.{answer}
+use Rattle.octets.specs.Output.{leading}
 use Rattle.packet.specs.Space.{version, packetType, secondary, apid, flags, count, spaceHeader, dataOctets, spaceSize, flaggedIdle}
 use Rattle.packet.specs.Encapsulation.{limit, protocol, encapHeader, user, extension, encapSize, misnamed, emptyNamed}
 
@@ -23,26 +23,23 @@ unfoldable pub size : List ℕ → ℕ
 size s = cond (isSpace s) (spaceSize s) (encapSize s)
 
 -- 3, or 7, 4, 5, 6
-abbrev pub kindTests : List ℕ → List (Test ℕ)
+abbrev pub kindTests : List ℕ → List (Test (List ℕ))
 kindTests s =
     cond (isSpace s)
-    ((flaggedIdle s gives 3) ∷ [])
-    ((misnamed s gives 7)
-    ∷ (ltb (encapSize s) (encapHeader s) gives 4)
-    ∷ (ltb limit (encapSize s) gives 5)
-    ∷ (emptyNamed s gives 6)
+    ((flaggedIdle s gives (3 ∷ [])) ∷ [])
+    ((misnamed s gives (7 ∷ []))
+    ∷ (ltb (encapSize s) (encapHeader s) gives (4 ∷ []))
+    ∷ (ltb limit (encapSize s) gives (5 ∷ []))
+    ∷ (emptyNamed s gives (6 ∷ []))
     ∷ [])
 
 -- 1 for no octets, 2, 1 for the header, then 3, or 7, 4, 5, 6, then 1 for the packet
-unfoldable pub readingTests : List ℕ → List (Test ℕ)
+unfoldable pub readingTests : List ℕ → List (Test (List ℕ))
 readingTests s =
-    (eqb (length s) 0 gives 1)
-    ∷ (not (isSpace s || isEncapsulation s) gives 2)
-    ∷ (ltb (length s) (header s) gives 1)
-    ∷ (kindTests s ++ (ltb (length s) (size s) gives 1) ∷ [])
-
-unfoldable pub refusal : List ℕ → ℕ
-refusal s = first 0 (readingTests s)
+    (eqb (length s) 0 gives (1 ∷ []))
+    ∷ (not (isSpace s || isEncapsulation s) gives (2 ∷ []))
+    ∷ (ltb (length s) (header s) gives (1 ∷ []))
+    ∷ (kindTests s ++ (ltb (length s) (size s) gives (1 ∷ [])) ∷ [])
 
 -- the version, and the fields that a packet of that version has
 unfoldable pub fields : List ℕ → List ℕ
@@ -53,7 +50,11 @@ fields s =
 
 -- what reading tells: 0 and the fields, or the refusal
 unfoldable pub reading : List ℕ → List ℕ
-reading s = answer (refusal s) (fields s)
+reading s = first (0 ∷ fields s) (readingTests s)
+
+-- the refusal alone
+unfoldable pub refusal : List ℕ → ℕ
+refusal s = leading (reading s)
 
 -- the data field or the content, and where it begins; an empty part at the front where the packet is refused
 unfoldable pub content : List ℕ → List ℕ

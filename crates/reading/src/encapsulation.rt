@@ -3,9 +3,9 @@ ghost use mathlib.Core.Path.{_≡_};
 ghost use mathlib.Core.Bool.{cond};
 ghost use lib.Dec.{ltb};
 ghost use Rattle.octets.specs.Octets.{octet, be16};
-ghost use Rattle.packet.specs.Encapsulation.{headerFor, sizeFor, misnames};
+ghost use Rattle.packet.specs.Encapsulation.{protocol as protocolIn, headerFor, encapHeader, second as secondIn, sizeFor, encapSize, misnames};
 ghost use Rattle.reading.specs.Reading.{refusal, reading};
-ghost use Rattle.reading.specs.Causes.{Version};
+ghost use Rattle.reading.specs.Causes.{Version, EncapThere};
 ghost use Rattle.packet.specs.Told.{told};
 use octets::be16_at;
 use octets::be32_at;
@@ -67,22 +67,15 @@ fn is_misnamed(header: u8, protocol: u8, extension: u8, ccsds: u16) -> bool
         | (ccsds != 0)
 }
 
-// The refusal of a packet of version 111, or 0.
-fn refusal_of(s: &[u8]) -> u8
-    requires { ⌜ Version 7 (now s) ⌝ }
+// The refusal of a packet whose header is there, or 0; its fields are given, so that they are read once.
+fn refusal_of(s: &[u8], header: u8, protocol: u8, second: u8, size: usize) -> u8
+    requires { ⌜ EncapThere (now s) × (header ≡ encapHeader (now s)) × (protocol ≡ protocolIn (now s)) ⌝ }
+    requires { ⌜ (second ≡ secondIn (now s)) × (size ≡ encapSize (now s)) ⌝ }
     ensures { λ r. ⌜ r ≡ refusal (now (s .entry)) ⌝ }
 {
-    let first = octet_at(s, 0);
-    let header = header_for(first % 4);
-    if s.len() < header as usize {
-        return 1;
-    }
-    let protocol = first / 4 % 8;
-    let second = second_for(header, s);
     if is_misnamed(header, protocol, second % 16, ccsds_for(header, s)) {
         return 7;
     }
-    let size = size_for(header, s);
     if size < header as usize {
         return 4;
     }
@@ -103,18 +96,23 @@ pub(crate) fn read(s: &[u8]) -> Packet
     requires { ⌜ Version 7 (now s) ⌝ }
     ensures { λ r. ⌜ told r ≡ reading (now (s .entry)) ⌝ }
 {
-    let number = refusal_of(s);
+    let first = octet_at(s, 0);
+    let header = header_for(first % 4);
+    if s.len() < header as usize {
+        return Packet::Refused(1);
+    }
+    let protocol = first / 4 % 8;
+    let second = second_for(header, s);
+    let size = size_for(header, s);
+    let number = refusal_of(s, header, protocol, second, size);
     if number != 0 {
         return Packet::Refused(number);
     }
-    let first = octet_at(s, 0);
-    let header = header_for(first % 4);
-    let second = second_for(header, s);
     Packet::Encapsulation {
-        protocol: first / 4 % 8,
+        protocol,
         user: second / 16 % 16,
         extension: second % 16,
         header,
-        octets: (size_for(header, s) - header as usize) as u32,
+        octets: (size - header as usize) as u32,
     }
 }

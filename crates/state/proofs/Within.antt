@@ -12,7 +12,7 @@ use lib.Seq.{set-getD, set-out, set-set}
 use Rattle.marks.specs.Blocks.{blocks, blocksFor}
 use Rattle.lane.specs.declared.Lane.{Lane}
 use Rattle.lane.specs.Lane.{closed, held, need, holding}
-use Rattle.state.specs.State.{total, others, within}
+use Rattle.state.specs.State.{total, within}
 
 -- ---- what a lane counts for
 pub need-closed : need closed ≡ 0
@@ -23,7 +23,10 @@ pub need-open : (l : Lane) → l .opened ≡ true → need l ≡ max (held l) (l
 unfolding need
 need-open l o = simp o
 
--- ---- and all of them
+-- ---- and all of them, or all but one
+unfoldable pub others : List Lane → ℕ → ℕ
+others ls i = total (set ls i closed)
+
 pub total-set : (ls : List Lane) (i : ℕ) (l : Lane) → i < length ls → total (set ls i l) ≡ need l + others ls i
 unfolding total others
 total-set [] i l h = absurd (omega arith)

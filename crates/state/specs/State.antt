@@ -2,7 +2,7 @@
 use Prim.Native.Nat.{ℕ, _+_}
 use mathlib.Core.Bool.{Bool, true, not, _&&_}
 use mathlib.Core.List.{List, [], _∷_, map}
-use lib.ListN.{getD, set, replicate}
+use lib.ListN.{getD, replicate}
 use lib.Dec.{eqb, leb}
 use Rattle.marks.specs.Blocks.{blocks, free}
 use Rattle.marks.specs.Matching.{matching}
@@ -24,10 +24,6 @@ unfoldable pub total : List Lane → ℕ
 total [] = 0
 total (l ∷ ls) = need l + total ls
 
--- the same for every other open lane
-unfoldable pub others : List Lane → ℕ → ℕ
-others ls i = total (set ls i closed)
-
 -- what the lanes hold or are promised fits the pool
 unfoldable pub within : List Lane → Bool
 within ls = leb (total ls) blocks
@@ -37,8 +33,8 @@ every p [] = true
 every p (l ∷ ls) = p l && every p ls
 
 -- A state is sound when each lane by itself is (an open lane's settings are legal, the blocks of its octets are within its cap, a closed lane
--- holds nothing, last is at most 16,383, and the tallies, counting an open group as broken, form a possible record), what they hold or are promised fits the pool, and
--- each lane's blocks match its octets with no block held twice.
+-- holds nothing, last is at most 16,383, and the tallies, counting an open group as broken, form a possible record), that sum is within the pool,
+-- and each lane's blocks match its octets with no block held twice.
 unfoldable pub sound : State → Bool
 sound s = every fine (s .lanes) && within (s .lanes) && matching (s .marks) (map held (s .lanes))
 

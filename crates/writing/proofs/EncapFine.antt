@@ -1,16 +1,18 @@
 -- An Encapsulation Packet that is not refused: every test of the order failed, so each field is within its width and the packet fits.
 use Prim.Native.Nat.{ℕ, _+_, _≤_, _<_}
-use mathlib.Core.Path.{_≡_}
-use mathlib.Core.List.{List}
+use mathlib.Core.Path.{_≡_, refl}
+use mathlib.Core.List.{List, [], _∷_}
 use mathlib.Core.Bool.{false, _||_}
 use native.Mathlib.Omega.{arith}
 use borrow.Author.Tests.{lt-leb, le-ltb, leb-false, ltb-false}
 use lib.Dec.{ltb}
 use lib.ListN.{length, length-append}
-use Rattle.octets.proofs.Order.{either, neither}
+use Rattle.octets.specs.Output.{unlessRefused}
+use Rattle.octets.proofs.Order.{either, neither, settled-number, settled-values}
+use Rattle.octets.proofs.Writers.{told-octets, told-refusal}
 use Rattle.packet.specs.Encapsulation.{limit, extendsAnother, namesEmpty}
 use Rattle.writing.specs.Fields.{over}
-use Rattle.writing.specs.Encapsulation.{shortest, headerOctets, encapOctetsWith, encapOctets, encapOver, encapRefusal}
+use Rattle.writing.specs.Encapsulation.{shortest, headerOctets, encapOctetsWith, encapOctets, encapOver, encapTests, encapTold, encapRefusal}
 use Rattle.writing.proofs.Header.{shortest-fits, header-size}
 
 module _ (p u x n room : ℕ) where
@@ -40,7 +42,7 @@ module _ (p u x n room : ℕ) where
       }
 
   pub fine : encapRefusal p u x n room ≡ 0 → Fine
-  unfolding encapRefusal
+  unfolding encapTold
   fine e =
       either (encapOver p u x) (λ h. absurd (omega (arith, simp h at e)))
       (λ o. either (extendsAnother p x) (λ h. absurd (omega (arith, simp (o, h) at e)))
@@ -51,9 +53,18 @@ module _ (p u x n room : ℕ) where
 
   -- the other way round
   pub accepts : Fine → encapRefusal p u x n room ≡ 0
-  unfolding encapRefusal
+  unfolding encapTold
   accepts ok =
       simp (lt-leb 8 p (ok .protocol), lt-leb 16 u (ok .user), lt-leb 16 x (ok .extension), ok .extends, ok .named, le-ltb limit (shortest p u n + n) (ok .limited), le-ltb room (shortest p u n + n) (ok .fits))
+
+  -- ---- a number that was settled first is what is told, and so are the octets
+  pub refused-told : {k : ℕ} → k ≡ encapRefusal p u x n room → (k ≡ 0 → ⊥) → k ∷ [] ≡ encapTold p u x n room
+  unfolding encapTold
+  refused-told {k} settled some = settled-number ((shortest p u n + n) ∷ []) (encapTests p u x n room) (refl, (refl, (refl, (refl, (refl, tt))))) k settled some
+
+  pub fine-told : encapRefusal p u x n room ≡ 0 → 0 ∷ (shortest p u n + n) ∷ [] ≡ encapTold p u x n room
+  unfolding encapTold
+  fine-told e = settled-values ((shortest p u n + n) ∷ []) (encapTests p u x n room) (omega arith) e
 
 -- the packet's octets
 pub encap-size : (p u x : ℕ) (content : List ℕ) → length (encapOctets p u x content) ≡ shortest p u (length content) + length content
@@ -61,3 +72,16 @@ unfolding encapOctetsWith
 encap-size p u x content =
     let h = shortest p u (length content) in
     omega (arith, length-append (headerOctets h p u x (h + length content)) content, header-size (shortest-fits p u (length content)) x (h + length content))
+
+-- what the writer told says how it ended, also for a number of octets that is lent
+module _ (p u x : ℕ) (content : List ℕ) (room old : ℕ) where
+  abbrev refusal : ℕ
+  refusal = encapRefusal p u x (length content) room
+
+  pub octets-told : (m : ℕ) → 0 ∷ m ∷ [] ≡ encapTold p u x (length content) room → (0 ≡ refusal) × (m ≡ unlessRefused refusal (length (encapOctets p u x content)) old)
+  unfolding encapTold
+  octets-told m e = rw (encap-size p u x content) (told-octets (shortest p u (length content) + length content) (encapTests p u x (length content) room) (omega arith) old m e)
+
+  pub refusal-told : (k : ℕ) → k ∷ [] ≡ encapTold p u x (length content) room → (k ≡ refusal) × (old ≡ unlessRefused refusal (length (encapOctets p u x content)) old)
+  unfolding encapTold
+  refusal-told k e = rw (encap-size p u x content) (told-refusal (shortest p u (length content) + length content) (encapTests p u x (length content) room) (omega arith) old k e)

@@ -1,7 +1,8 @@
--- Each number is given exactly when its test holds and every test before it fails: the law of every order, at the orders of the writers. And an
+-- What is told is told exactly when its test holds and every test before it fails: the law of every order, at the orders of the writers. And an
 -- output as long as the longest packet always suffices.
 use Prim.Native.Nat.{ℕ, _+_, _≤_}
 use mathlib.Core.Path.{_≡_}
+use mathlib.Core.List.{List, [], _∷_}
 use native.Mathlib.Omega.{arith}
 use borrow.Author.Tests.{le-ltb, ltb-false}
 use lib.Dec.{eqb, ltb}
@@ -9,16 +10,18 @@ use Rattle.octets.specs.Order.{Because}
 use Rattle.octets.proofs.Order.{either, neither, exactly}
 use Rattle.packet.specs.Space.{spaceHeader, longestData, flagsIdle}
 use Rattle.packet.specs.Encapsulation.{limit, extendsAnother, namesEmpty}
-use Rattle.writing.specs.Space.{spaceOver, wrongDataLength, spaceTests, spaceRefusal}
-use Rattle.writing.specs.Encapsulation.{shortest, encapOver, encapTests, encapRefusal}
+use Rattle.writing.specs.Space.{spaceOver, wrongDataLength, spaceTests, spaceTold, spaceRefusal}
+use Rattle.writing.specs.Encapsulation.{shortest, encapOver, encapTests, encapTold, encapRefusal}
 
 module _ (t x a f c n room : ℕ) where
-  pub space-exactly : (k : ℕ) → (spaceRefusal t x a f c n room ≡ k → Because 0 (spaceTests t x a f c n room) k) × (Because 0 (spaceTests t x a f c n room) k → spaceRefusal t x a f c n room ≡ k)
-  unfolding spaceRefusal
-  space-exactly k = exactly 0 (spaceTests t x a f c n room) k
+  pub space-exactly : (told : List ℕ)
+      → (spaceTold t x a f c n room ≡ told → Because (0 ∷ (spaceHeader + n) ∷ []) (spaceTests t x a f c n room) told)
+      × (Because (0 ∷ (spaceHeader + n) ∷ []) (spaceTests t x a f c n room) told → spaceTold t x a f c n room ≡ told)
+  unfolding spaceTold
+  space-exactly told = exactly (0 ∷ (spaceHeader + n) ∷ []) (spaceTests t x a f c n room) told
 
   pub space-room : limit ≤ room → spaceRefusal t x a f c n room ≡ 9 → ⊥
-  unfolding spaceRefusal
+  unfolding spaceTold
   space-room h e =
       either (spaceOver t x a f c) (λ o. omega (arith, simp o at e))
       (λ o. either (flagsIdle a x) (λ i. omega (arith, simp (o, i) at e))
@@ -27,12 +30,14 @@ module _ (t x a f c n room : ℕ) where
       omega (arith, simp (o, i, d, le-ltb room (spaceHeader + n) (omega (arith, most))) at e))))
 
 module _ (p u x n room : ℕ) where
-  pub encap-exactly : (k : ℕ) → (encapRefusal p u x n room ≡ k → Because 0 (encapTests p u x n room) k) × (Because 0 (encapTests p u x n room) k → encapRefusal p u x n room ≡ k)
-  unfolding encapRefusal
-  encap-exactly k = exactly 0 (encapTests p u x n room) k
+  pub encap-exactly : (told : List ℕ)
+      → (encapTold p u x n room ≡ told → Because (0 ∷ (shortest p u n + n) ∷ []) (encapTests p u x n room) told)
+      × (Because (0 ∷ (shortest p u n + n) ∷ []) (encapTests p u x n room) told → encapTold p u x n room ≡ told)
+  unfolding encapTold
+  encap-exactly told = exactly (0 ∷ (shortest p u n + n) ∷ []) (encapTests p u x n room) told
 
   pub encap-room : limit ≤ room → encapRefusal p u x n room ≡ 9 → ⊥
-  unfolding encapRefusal
+  unfolding encapTold
   encap-room h e =
       either (encapOver p u x) (λ o. omega (arith, simp o at e))
       (λ o. either (extendsAnother p x) (λ i. omega (arith, simp (o, i) at e))

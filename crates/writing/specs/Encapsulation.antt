@@ -6,7 +6,7 @@ use lib.ListN.{length}
 use lib.Dec.{eqb, ltb}
 use Rattle.octets.specs.Octets.{octets2, octets4}
 use Rattle.octets.specs.Order.{Test, _gives_, first}
-use Rattle.octets.specs.Output.{writerTells, outputAfter}
+use Rattle.octets.specs.Output.{leading, outputAfter}
 use Rattle.packet.specs.Encapsulation.{limit, extended, extendsAnother, namesEmpty}
 use Rattle.writing.specs.Fields.{over}
 
@@ -45,21 +45,22 @@ abbrev pub encapOver : ℕ → ℕ → ℕ → Bool
 encapOver p u x = over 3 p || over 4 u || over 4 x
 
 -- 8, then 7 (only for the extension) and 6, then 10, 9: for n octets of content and an output of room octets
-abbrev pub encapTests : ℕ → ℕ → ℕ → ℕ → ℕ → List (Test ℕ)
+abbrev pub encapTests : ℕ → ℕ → ℕ → ℕ → ℕ → List (Test (List ℕ))
 encapTests p u x n room =
-    (encapOver p u x gives 8)
-    ∷ (extendsAnother p x gives 7)
-    ∷ (namesEmpty n p gives 6)
-    ∷ (ltb limit (shortest p u n + n) gives 10)
-    ∷ (ltb room (shortest p u n + n) gives 9)
+    (encapOver p u x gives (8 ∷ []))
+    ∷ (extendsAnother p x gives (7 ∷ []))
+    ∷ (namesEmpty n p gives (6 ∷ []))
+    ∷ (ltb limit (shortest p u n + n) gives (10 ∷ []))
+    ∷ (ltb room (shortest p u n + n) gives (9 ∷ []))
     ∷ []
 
-unfoldable pub encapRefusal : ℕ → ℕ → ℕ → ℕ → ℕ → ℕ
-encapRefusal p u x n room = first 0 (encapTests p u x n room)
+-- what the writer tells: 0 and the octets written, or the refusal
+unfoldable pub encapTold : ℕ → ℕ → ℕ → ℕ → ℕ → List ℕ
+encapTold p u x n room = first (0 ∷ (shortest p u n + n) ∷ []) (encapTests p u x n room)
 
--- what the writer tells, and the output after it
-abbrev pub encapTold : ℕ → ℕ → ℕ → List ℕ → List ℕ → List ℕ
-encapTold p u x content out = writerTells (encapRefusal p u x (length content) (length out)) (encapOctets p u x content)
+-- the refusal alone, and the output after the writer
+abbrev pub encapRefusal : ℕ → ℕ → ℕ → ℕ → ℕ → ℕ
+encapRefusal p u x n room = leading (encapTold p u x n room)
 
 abbrev pub encapAfter : ℕ → ℕ → ℕ → List ℕ → List ℕ → List ℕ
 encapAfter p u x content out = outputAfter (encapRefusal p u x (length content) (length out)) (encapOctets p u x content) out

@@ -6,7 +6,7 @@ use lib.ListN.{length}
 use lib.Dec.{eqb, ltb}
 use Rattle.octets.specs.Octets.{octets2}
 use Rattle.octets.specs.Order.{Test, _gives_, first}
-use Rattle.octets.specs.Output.{writerTells, outputAfter}
+use Rattle.octets.specs.Output.{leading, outputAfter}
 use Rattle.packet.specs.Space.{apids, counts, spaceHeader, longestData, flagsIdle}
 use Rattle.writing.specs.Fields.{over}
 
@@ -23,20 +23,21 @@ abbrev pub wrongDataLength : ℕ → Bool
 wrongDataLength n = eqb n 0 || ltb longestData n
 
 -- 8, then 3, then 10, 9: for n octets of data and an output of room octets
-abbrev pub spaceTests : ℕ → ℕ → ℕ → ℕ → ℕ → ℕ → ℕ → List (Test ℕ)
+abbrev pub spaceTests : ℕ → ℕ → ℕ → ℕ → ℕ → ℕ → ℕ → List (Test (List ℕ))
 spaceTests t x a f c n room =
-    (spaceOver t x a f c gives 8)
-    ∷ (flagsIdle a x gives 3)
-    ∷ (wrongDataLength n gives 10)
-    ∷ (ltb room (spaceHeader + n) gives 9)
+    (spaceOver t x a f c gives (8 ∷ []))
+    ∷ (flagsIdle a x gives (3 ∷ []))
+    ∷ (wrongDataLength n gives (10 ∷ []))
+    ∷ (ltb room (spaceHeader + n) gives (9 ∷ []))
     ∷ []
 
-unfoldable pub spaceRefusal : ℕ → ℕ → ℕ → ℕ → ℕ → ℕ → ℕ → ℕ
-spaceRefusal t x a f c n room = first 0 (spaceTests t x a f c n room)
+-- what the writer tells: 0 and the octets written, or the refusal
+unfoldable pub spaceTold : ℕ → ℕ → ℕ → ℕ → ℕ → ℕ → ℕ → List ℕ
+spaceTold t x a f c n room = first (0 ∷ (spaceHeader + n) ∷ []) (spaceTests t x a f c n room)
 
--- what the writer tells, and the output after it
-abbrev pub spaceTold : ℕ → ℕ → ℕ → ℕ → ℕ → List ℕ → List ℕ → List ℕ
-spaceTold t x a f c field out = writerTells (spaceRefusal t x a f c (length field) (length out)) (spaceOctets t x a f c field)
+-- the refusal alone, and the output after the writer
+abbrev pub spaceRefusal : ℕ → ℕ → ℕ → ℕ → ℕ → ℕ → ℕ → ℕ
+spaceRefusal t x a f c n room = leading (spaceTold t x a f c n room)
 
 abbrev pub spaceAfter : ℕ → ℕ → ℕ → ℕ → ℕ → List ℕ → List ℕ → List ℕ
 spaceAfter t x a f c field out = outputAfter (spaceRefusal t x a f c (length field) (length out)) (spaceOctets t x a f c field) out

@@ -3,6 +3,7 @@ mod encapsulation;
 mod space;
 
 ghost use mathlib.Core.Path.{_≡_};
+ghost use lib.ListN.{length};
 ghost use Rattle.writing.specs.Space.{spaceTold, spaceAfter};
 ghost use Rattle.writing.specs.Encapsulation.{encapTold, encapAfter};
 ghost use Rattle.writing.specs.Told.{told};
@@ -29,7 +30,7 @@ pub fn write_space(
     field: &[u8],
     out: &mut [u8],
 ) -> Written
-    ensures { λ r. ⌜ told r ≡ spaceTold «packet_type» secondary apid flags count (now (field .entry)) (now (out .entry)) ⌝ }
+    ensures { λ r. ⌜ told r ≡ spaceTold «packet_type» secondary apid flags count (length (now (field .entry))) (length (now (out .entry))) ⌝ }
     ensures { λ _. ⌜ now (out .exit) ≡ spaceAfter «packet_type» secondary apid flags count (now (field .entry)) (now (out .entry)) ⌝ }
 {
     let refusal = space::refusal(
@@ -56,7 +57,7 @@ pub fn write_encapsulation(
     content: &[u8],
     out: &mut [u8],
 ) -> Written
-    ensures { λ r. ⌜ told r ≡ encapTold protocol user extension (now (content .entry)) (now (out .entry)) ⌝ }
+    ensures { λ r. ⌜ told r ≡ encapTold protocol user extension (length (now (content .entry))) (length (now (out .entry))) ⌝ }
     ensures { λ _. ⌜ now (out .exit) ≡ encapAfter protocol user extension (now (content .entry)) (now (out .entry)) ⌝ }
 {
     let header = shortest_header(protocol, user, content.len());

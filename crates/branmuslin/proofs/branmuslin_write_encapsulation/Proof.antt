@@ -2,8 +2,7 @@
 use mathlib.Core.Path.{sym, ap, _∙_}
 use denote.Ref.{now}
 use lib.ListN.{length}
-use Rattle.octets.proofs.Writers.{told-octets, told-refusal}
-use Rattle.writing.specs.Encapsulation.{encapOctets, encapRefusal}
+use Rattle.writing.proofs.EncapFine.{octets-told, refusal-told}
 use Rattle.writing.specs.Told.{told}
 use borrow.Author.Needs.{needs}
 use Rattle.branmuslin.proofs.branmuslin_write_encapsulation.Statement.{statement}
@@ -14,8 +13,7 @@ returns c =
     let wrote = c .before .before .before .before .before .write-encapsulation in
     let a = c .before .before .before .before .before .before .before .before .before .args in
     let ends =
-    told-octets (encapRefusal (a .protocol) (a .user) (a .extension) (length (now (a .content))) (length (now (a .out))))
-    (encapOctets (a .protocol) (a .user) (a .extension) (now (a .content))) (now (a .written)) _
+    octets-told (a .protocol) (a .user) (a .extension) (now (a .content)) (length (now (a .out))) (now (a .written)) _
     (sym (ap told (c .before .w .given .1)) ∙ wrote .ensures .0) in
     (ends .0, (wrote .ensures .1, ends .1))
 
@@ -24,8 +22,7 @@ returns-2 c =
     let wrote = c .before .before .before .before .before .write-encapsulation in
     let a = c .before .before .before .before .before .before .before .before .before .args in
     let ends =
-    told-refusal (encapRefusal (a .protocol) (a .user) (a .extension) (length (now (a .content))) (length (now (a .out))))
-    (encapOctets (a .protocol) (a .user) (a .extension) (now (a .content))) (now (a .written)) _
+    refusal-told (a .protocol) (a .user) (a .extension) (now (a .content)) (length (now (a .out))) (now (a .written)) _
     (sym (ap told (c .before .w2 .given .1)) ∙ wrote .ensures .0) in
     (ends .0, (wrote .ensures .1, ends .1))
 

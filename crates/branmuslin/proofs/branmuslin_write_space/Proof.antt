@@ -2,8 +2,7 @@
 use mathlib.Core.Path.{sym, ap, _∙_}
 use denote.Ref.{now}
 use lib.ListN.{length}
-use Rattle.octets.proofs.Writers.{told-octets, told-refusal}
-use Rattle.writing.specs.Space.{spaceOctets, spaceRefusal}
+use Rattle.writing.proofs.SpaceFine.{octets-told, refusal-told}
 use Rattle.writing.specs.Told.{told}
 use borrow.Author.Needs.{needs}
 use Rattle.branmuslin.proofs.branmuslin_write_space.Statement.{statement}
@@ -14,8 +13,7 @@ returns c =
     let wrote = c .before .before .before .before .before .write-space in
     let a = c .before .before .before .before .before .before .before .before .before .args in
     let ends =
-    told-octets (spaceRefusal (a .packet-type) (a .secondary) (a .apid) (a .flags) (a .count) (length (now (a .field))) (length (now (a .out))))
-    (spaceOctets (a .packet-type) (a .secondary) (a .apid) (a .flags) (a .count) (now (a .field))) (now (a .written)) _
+    octets-told (a .packet-type) (a .secondary) (a .apid) (a .flags) (a .count) (now (a .field)) (length (now (a .out))) (now (a .written)) _
     (sym (ap told (c .before .w .given .1)) ∙ wrote .ensures .0) in
     (ends .0, (wrote .ensures .1, ends .1))
 
@@ -24,8 +22,7 @@ returns-2 c =
     let wrote = c .before .before .before .before .before .write-space in
     let a = c .before .before .before .before .before .before .before .before .before .args in
     let ends =
-    told-refusal (spaceRefusal (a .packet-type) (a .secondary) (a .apid) (a .flags) (a .count) (length (now (a .field))) (length (now (a .out))))
-    (spaceOctets (a .packet-type) (a .secondary) (a .apid) (a .flags) (a .count) (now (a .field))) (now (a .written)) _
+    refusal-told (a .packet-type) (a .secondary) (a .apid) (a .flags) (a .count) (now (a .field)) (length (now (a .out))) (now (a .written)) _
     (sym (ap told (c .before .w2 .given .1)) ∙ wrote .ensures .0) in
     (ends .0, (wrote .ensures .1, ends .1))
 

@@ -17,7 +17,7 @@ returns c =
     let out = now (c .before .before .args .out) in
     let r = c .before .before .args .r in
     let told = no-room r (length out) (omega (arith, c .if1 .taken)) in
-    (told, refused (writingRefusal r (length out)) (recordOctets r) out 9 (omega arith) (sym (ap leading told)) .1)
+    (told, refused (writingRefusal r (length out)) (recordOctets r) out (omega (arith, ap leading told)))
 
 returns-2 : tie.Need-returns-2
 returns-2 c =
@@ -26,7 +26,7 @@ returns-2 c =
     let out = now (start .args .out) in
     let r = start .args .r in
     let told = is-written r (length out) (omega (arith, there .before .before .if1 .left)) (sym (there .before .is-possible .ensures) ∙ there .if2 .taken) in
-    (told, c .before .before .put-fields .ensures ∙ accepted (writingRefusal r (length out)) (recordOctets r) out (sym (ap leading told)) .1)
+    (told, c .before .before .put-fields .ensures ∙ accepted (writingRefusal r (length out)) (recordOctets r) out (sym (ap leading told)))
 
 returns-3 : tie.Need-returns-3
 returns-3 c =
@@ -34,7 +34,7 @@ returns-3 c =
     let out = now (start .args .out) in
     let r = start .args .r in
     let told = write-impossible r (length out) (omega (arith, c .before .before .if1 .left)) (sym (c .before .is-possible .ensures) ∙ c .if2 .left) in
-    (told, refused (writingRefusal r (length out)) (recordOctets r) out 25 (omega arith) (sym (ap leading told)) .1)
+    (told, refused (writingRefusal r (length out)) (recordOctets r) out (omega (arith, ap leading told)))
 
 pub write-record-spec : {M : Type 1} → statement M
 write-record-spec = tie.close (tie.spec returns (λ c κs. search needs) (λ c κs. search needs) (λ c. search needs) returns-2 returns-3)

@@ -1,7 +1,6 @@
 -- Refused, the output stays; else the header and the content are put, whose fields are within their widths by `fine`.
 use Prim.Native.Nat.{_+_, _≤_}
-use mathlib.Core.Path.{refl, sym, ap, _∙_}
-use mathlib.Core.List.{[], _∷_}
+use mathlib.Core.Path.{refl, sym, _∙_}
 use native.Mathlib.Omega.{arith}
 use denote.Ref.{now}
 use lib.ListN.{length}
@@ -10,7 +9,7 @@ use Rattle.octets.proofs.Writers.{accepted, refused}
 use Rattle.packet.specs.Encapsulation.{limit}
 use Rattle.writing.specs.Encapsulation.{shortest, headerOctets, encapOctetsWith, encapOctets, encapRefusal}
 use Rattle.writing.proofs.Header.{shortest-fits, header-size}
-use Rattle.writing.proofs.EncapFine.{Fine, fine, encap-size}
+use Rattle.writing.proofs.EncapFine.{Fine, fine, refused-told, fine-told, encap-size}
 use Rattle.writing.proofs.write_encapsulation.Tie as tie
 use borrow.Author.Needs.{needs}
 use Rattle.writing.proofs.write_encapsulation.Statement.{statement}
@@ -18,8 +17,13 @@ use Rattle.writing.proofs.write_encapsulation.Statement.{statement}
 returns : tie.Need-returns
 returns c =
     let a = c .before .before .before .before .before .args in
-    refused (encapRefusal (a .protocol) (a .user) (a .extension) (length (now (a .content))) (length (now (a .out))))
-    (encapOctets (a .protocol) (a .user) (a .extension) (now (a .content))) (now (a .out)) (c .before .refusal .result) (omega (arith, c .if1 .taken)) (sym (c .before .refusal .ensures))
+    let n = length (now (a .content)) in
+    let room = length (now (a .out)) in
+    let settled = c .before .refusal .ensures in (
+      refused-told (a .protocol) (a .user) (a .extension) n room settled (c .if1 .taken),
+      refused (encapRefusal (a .protocol) (a .user) (a .extension) n room) (encapOctets (a .protocol) (a .user) (a .extension) (now (a .content))) (now (a .out))
+          (omega (arith, settled, c .if1 .taken)),
+    )
 
 not-refused : (c : tie.Else1) → (let a = c .before .before .before .before .before .args in Fine (a .protocol) (a .user) (a .extension) (length (now (a .content))) (length (now (a .out))))
 not-refused c =
@@ -56,8 +60,10 @@ returns-2 c =
     let put1 : Wrote d 0 header (at1 .put-header .last .0) (there .before .before .shortest-header .result) = (omega (arith, e, size), rw (← e) (at1 .put-header .ensures)) in
     let room : Fits d 0 (encapOctets (a .protocol) (a .user) (a .extension) (now (a .content))) = omega (arith, encap-size (a .protocol) (a .user) (a .extension) (now (a .content)), f .fits) in
     let put2 = then-put d 0 header (now (a .content)) room refl put1 (at2 .put-octets .ensures) in
-    let ends = accepted (encapRefusal (a .protocol) (a .user) (a .extension) n (length d)) (encapOctets (a .protocol) (a .user) (a .extension) (now (a .content))) d (sym (there .before .refusal .ensures) ∙ there .if1 .left) in
-    (ap (λ m. 0 ∷ m ∷ []) (rw e (sym (encap-size (a .protocol) (a .user) (a .extension) (now (a .content))))) ∙ ends .0, put2 .1 ∙ ends .1)
+    let none = sym (there .before .refusal .ensures) ∙ there .if1 .left in (
+      rw e (fine-told (a .protocol) (a .user) (a .extension) n (length d) none),
+      put2 .1 ∙ accepted (encapRefusal (a .protocol) (a .user) (a .extension) n (length d)) (encapOctets (a .protocol) (a .user) (a .extension) (now (a .content))) d none,
+    )
 
 pub write-encapsulation-spec : {M : Type 1} → statement M
 write-encapsulation-spec = tie.close (tie.spec (λ c κs. search needs) (λ c κs. search needs) returns put-header-requires (λ c κs. search needs) add-t8 (λ c. search needs) returns-2)

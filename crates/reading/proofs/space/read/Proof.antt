@@ -1,19 +1,38 @@
--- The number is settled first; where there is none, each field is what the octets say.
+-- Each refusal has its cause, from the tests that led there.
+use mathlib.Core.Path.{_≡_}
+use mathlib.Core.Bool.{true, false}
 use borrow.Author.Needs.{needs}
+use borrow.Author.Tests.{eq-eqb}
+use native.Mathlib.Omega.{arith}
 use denote.Ref.{now}
-use Rattle.reading.proofs.Exits.{refused-told, space-told}
+use Rattle.packet.specs.Space.{version, flaggedIdle}
+use Rattle.reading.specs.Reading.{fields}
+use Rattle.reading.specs.Causes.{space-header, idle, space-packet, space}
+use Rattle.reading.proofs.Exactly.{refused, accepted}
 use Rattle.reading.proofs.space.read.Statement.{statement}
 use Rattle.reading.proofs.space.read.Tie as tie
 
 returns : tie.Need-returns
-returns c = refused-told (now (c .before .before .before .args .s)) (c .before .refusal-of .ensures) (c .if1 .taken)
+returns c = refused (space-header (c .before .before .pre) (c .if1 .taken))
 
 returns-2 : tie.Need-returns-2
 returns-2 c =
-    let settled = c .before .before .before .before .before .before in
-    let start = settled .before .before in
-    space-told (now (start .args .s)) (settled .refusal-of .ensures) (c .before .before .before .before .before .if1 .left) (start .pre)
-    (c .before .before .before .before .octet-at .ensures) (c .before .before .before .be16-at .ensures) (c .before .before .octet-at2 .ensures) (c .before .be16-at2 .ensures) (c .be16-at3 .ensures)
+    let i : flaggedIdle (now (c .before .before .before .before .before .args .s)) ≡ true = cc in
+    refused (idle (c .before .before .before .before .before .pre, c .before .before .before .if1 .left) i)
+
+returns-3 : tie.Need-returns-3
+returns-3 c =
+    let start = c .before .before .before .before .before .before .before in
+    let i : flaggedIdle (now (start .args .s)) ≡ false = cc in
+    refused (space-packet ((start .pre, c .before .before .before .before .before .if1 .left), i) (omega arith))
+
+returns-4 : tie.Need-returns-4
+unfolding fields
+returns-4 c =
+    let start = c .before .before .before .before .before .before .before .before .before in
+    let s = now (start .args .s) in
+    let i : flaggedIdle s ≡ false = cc in
+    cc (simp (eq-eqb (version s) 0 (start .pre .1)) at (accepted {s = s} (space ((start .pre, c .before .before .before .before .before .before .before .if1 .left), i) (omega arith))))
 
 pub read-spec : {M : Type 1} → statement M
-read-spec = tie.close (tie.spec (λ c κs. search needs) returns (λ c κs. search needs) (λ c κs. search needs) (λ c κs. search needs) (λ c κs. search needs) (λ c κs. search needs) (λ c. search needs) (λ c. search needs) returns-2)
+read-spec = tie.close (tie.spec returns (λ c κs. search needs) (λ c κs. search needs) returns-2 (λ c κs. search needs) (λ c. search needs) (λ c. search needs) (λ c. search needs) (λ c. search needs) returns-3 (λ c κs. search needs) (λ c κs. search needs) returns-4)

@@ -3,7 +3,7 @@ use Prim.Native.Nat.{_+_, _≤_}
 use native.Mathlib.Omega.{arith}
 use borrow.Author.Tests.{lt-ltb, le-ltb}
 use Rattle.packet.specs.Encapsulation.{limit}
-use Rattle.writing.specs.Encapsulation.{shortest, encapRefusal}
+use Rattle.writing.specs.Encapsulation.{shortest, encapTold}
 use Rattle.writing.proofs.Header.{shortest-fits, some}
 use Rattle.writing.proofs.encapsulation.refusal.Tie as tie
 use borrow.Author.Needs.{needs}
@@ -15,22 +15,22 @@ small c =
     rw (start .pre) (some (shortest-fits (start .args .protocol) (start .args .user) (start .args .n)))
 
 returns : tie.Need-returns
-unfolding encapRefusal
+unfolding encapTold
 returns c = simp (c .if1 .taken)
 
 returns-2 : tie.Need-returns-2
-unfolding encapRefusal
+unfolding encapTold
 returns-2 c = simp (c .before .if1 .left, c .if2 .taken)
 
 returns-3 : tie.Need-returns-3
-unfolding encapRefusal
+unfolding encapTold
 returns-3 c = simp (c .before .before .if1 .left, c .before .if2 .left, c .if3 .taken)
 
 sub-if4 : tie.Need-sub-if4
 sub-if4 c = omega (arith, small c)
 
 returns-4 : tie.Need-returns-4
-unfolding encapRefusal
+unfolding encapTold
 returns-4 c =
     let a = c .before .before .before .before .args in
     simp (
@@ -41,7 +41,7 @@ returns-4 c =
     )
 
 returns-5 : tie.Need-returns-5
-unfolding encapRefusal
+unfolding encapTold
 returns-5 c =
     let there = c .before .before .before .before in
     let a = there .before .args in
@@ -55,7 +55,7 @@ returns-5 c =
     )
 
 returns-6 : tie.Need-returns-6
-unfolding encapRefusal
+unfolding encapTold
 returns-6 c =
     let there = c .before .before .before .before in
     let a = there .before .args in
