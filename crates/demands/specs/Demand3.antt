@@ -12,7 +12,7 @@ use lib.Dec.{eqb, ltb}
 use Rattle.packet.specs.Space as space
 use Rattle.packet.specs.Space.{flags}
 use Rattle.record.specs.Record.{mostPackets, recordSize}
-use Rattle.marks.specs.Blocks.{blockOctets, free, mark, freed}
+use Rattle.marks.specs.Blocks.{blocks, blockOctets, free, mark, freed}
 use Rattle.pool.specs.Octets.{place}
 use Rattle.marks.specs.Matching.{count, isFree, sum}
 use Rattle.lane.specs.declared.Settings.{Settings}
@@ -96,10 +96,10 @@ markAt s b = getD (s .marks) b 0
 
 -- block b is one of the 64 and belongs to lane i, one of the eight: a free mark names none of them
 abbrev pub Belongs : State → ℕ → ℕ → Type 0
-Belongs s b i = (b < 64) × (i < 8) × (markAt s b / 64 ≡ i)
+Belongs s b i = (b < blocks) × (i < 8) × (markAt s b / blocks ≡ i)
 
 abbrev pub blocksOf : State → ℕ → ℕ
-blocksOf s i = count (λ o. eqb (o / 64) i) (s .marks)
+blocksOf s i = count (λ o. eqb (o / blocks) i) (s .marks)
 
 -- No source ever holds more than its cap: the blocks that belong to it are those that its octets need, and no more than its cap
 abbrev pub WithinCap : Type 0
@@ -123,13 +123,13 @@ NoBlockInTwo =
 abbrev pub NoneLost : Type 0
 NoneLost =
     (start : Start) (calls : List Call)
-    → ((b : ℕ) → b < 64 → (markAt (reached start calls) b ≡ free) ⊎ ((i : ℕ) × Belongs (reached start calls) b i))
-    × (count isFree (reached start calls .marks) + sum (map held (reached start calls .lanes)) ≡ 64)
+    → ((b : ℕ) → b < blocks → (markAt (reached start calls) b ≡ free) ⊎ ((i : ℕ) × Belongs (reached start calls) b i))
+    × (count isFree (reached start calls .marks) + sum (map held (reached start calls .lanes)) ≡ blocks)
 
 -- a call moves blocks only between the free ones and its lane's
 abbrev pub OnlyItsOwn : Type 0
 OnlyItsOwn =
-    (start : Start) (calls : List Call) (c : Call) (b : ℕ) → b < 64
+    (start : Start) (calls : List Call) (c : Call) (b : ℕ) → b < blocks
     → (markAt (next start calls c) b ≡ markAt (reached start calls) b)
     ⊎ (((markAt (reached start calls) b ≡ free) ⊎ Belongs (reached start calls) b (laneOf c))
     × ((markAt (next start calls c) b ≡ free) ⊎ Belongs (next start calls c) b (laneOf c)))
@@ -173,7 +173,7 @@ marked s i packet b holds =
 
 abbrev pub TakesLowest : Type 0
 TakesLowest =
-    (start : Start) (calls : List Call) (i : ℕ) (packet out left : List ℕ) (m : ℕ) (givenUp : Bool) (b : ℕ) → b < 64
+    (start : Start) (calls : List Call) (i : ℕ) (packet out left : List ℕ) (m : ℕ) (givenUp : Bool) (b : ℕ) → b < blocks
     → replied start calls (takes i packet out) ≡ toPacket (Held m givenUp) left
     → markAt (next start calls (takes i packet out)) b ≡ marked (reached start calls) i packet b (held (laneAt (next start calls (takes i packet out)) i))
 

@@ -6,6 +6,7 @@ use mathlib.Core.Bool.{Bool, cond}
 use mathlib.Core.List.{List, [], _∷_}
 use lib.ListN.{length, replicate, length-replicate}
 use lib.Dec.{eqb}
+use Rattle.marks.specs.Blocks.{blocks}
 use Rattle.pool.specs.Octets.{poolOctets}
 use Rattle.lane.specs.declared.Settings.{Settings}
 use Rattle.state.specs.declared.State.{State}
@@ -15,7 +16,7 @@ use Rattle.intake.specs.After.{opening, closing, closingOut, taking, takingPool
 
 -- a state has eight lanes and 64 marks, as the lengths of its arrays say
 abbrev pub Shaped : State → Type 0
-Shaped s = (length (s .lanes) ≡ 8) × (length (s .marks) ≡ 64)
+Shaped s = (length (s .lanes) ≡ 8) × (length (s .marks) ≡ blocks)
 
 -- ---- what is handed from call to call
 pub record Intake : Type 0 where

@@ -5,6 +5,7 @@ ghost use Prim.Native.Nat.{_<_};
 ghost use Rattle.lane.specs.Lane.{creditOf, fine};
 ghost use Rattle.intake.specs.After.{releasedFrom};
 use lane::Lane;
+use marks::BLOCKS;
 use marks::free_blocks;
 use numbers::one_if;
 use record::Record;
@@ -25,7 +26,7 @@ pub(crate) fn credit_of(l: Lane) -> Record
 }
 
 // Frees the blocks of the lane's group, if it has one.
-pub(crate) fn release(marks: &mut [u16; 64], lane: usize, l: Lane)
+pub(crate) fn release(marks: &mut [u16; BLOCKS], lane: usize, l: Lane)
     requires { ⌜ lane < 8 ⌝ }
     ensures { λ _. ⌜ now (marks .exit) ≡ releasedFrom (now (marks .entry)) lane l ⌝ }
 {

@@ -19,6 +19,7 @@ use grouping::Added;
 use grouping::Plan;
 use grouping::Step;
 use lane::Lane;
+use marks::BLOCKS;
 use marks::blocks_for;
 use marks::grant_blocks;
 use numbers::one_if;
@@ -79,7 +80,7 @@ fn count_in(l: Lane, a: Added, units: u32, grouped: bool, octets: u16) -> Lane
 }
 
 // The marks become those of a group with n octets.
-fn grow(marks: &mut [u16; 64], lane: usize, l: Lane, joins: bool, n: usize)
+fn grow(marks: &mut [u16; BLOCKS], lane: usize, l: Lane, joins: bool, n: usize)
     requires { ⌜ (lane < 8) × (n ≤ poolOctets) × (cond joins (l .octets) 0 ≤ n) ⌝ }
     ensures { λ _. ⌜ now (marks .exit) ≡ grown (now (marks .entry)) lane l joins n ⌝ }
 {
@@ -103,7 +104,7 @@ fn start_of(octets: u16, joins: bool) -> usize
 // The packet begins a group or is added to it: n octets with its user data.
 fn hold(
     l: Lane,
-    marks: &mut [u16; 64],
+    marks: &mut [u16; BLOCKS],
     lane: usize,
     a: Added,
     joins: bool,
@@ -123,7 +124,7 @@ fn hold(
 
 // Puts the group that goes on at the front of out, and tells its octets.
 fn put_group(
-    marks: [u16; 64],
+    marks: [u16; BLOCKS],
     lane: usize,
     l: Lane,
     joins: bool,
@@ -143,7 +144,7 @@ fn put_group(
 // The packet ends a unit: the group that goes on and its user data, which fit the output.
 fn end_unit(
     l: Lane,
-    marks: &mut [u16; 64],
+    marks: &mut [u16; BLOCKS],
     lane: usize,
     a: Added,
     joins: bool,
@@ -164,7 +165,7 @@ fn end_unit(
 }
 
 // The packet belongs to no group.
-fn stray(l: Lane, marks: &mut [u16; 64], lane: usize, a: Added) -> Lane
+fn stray(l: Lane, marks: &mut [u16; BLOCKS], lane: usize, a: Added) -> Lane
     requires { ⌜ Counts lane l a 0 false 0 ⌝ }
     ensures { λ r. ⌜ r ≡ laneAfter l (Stray a) ⌝ }
     ensures { λ _. ⌜ now (marks .exit) ≡ marksAfter (now (marks .entry)) lane l (Stray a) ⌝ }
@@ -176,7 +177,7 @@ fn stray(l: Lane, marks: &mut [u16; 64], lane: usize, a: Added) -> Lane
 // Takes the step, and tells the lane after it. The marks stay where they are, unless the step changes them.
 pub(crate) fn carry_out(
     l: Lane,
-    marks: &mut [u16; 64],
+    marks: &mut [u16; BLOCKS],
     lane: usize,
     step: Step,
     user: &[u8],

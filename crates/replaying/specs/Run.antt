@@ -4,6 +4,7 @@ use mathlib.Core.Bool.{Bool, true, false, cond, not, _&&_, _||_}
 use mathlib.Core.List.{List, [], _++_}
 use lib.Dec.{eqb, ltb, leb}
 use lib.ListN.{length, drop, replicate}
+use Rattle.pool.specs.Octets.{poolOctets}
 use Rattle.text.specs.Text.{ascii}
 use Rattle.runfile.specs.Calls.{callAt, callSize}
 use Rattle.runfile.specs.Start.{start}
@@ -83,7 +84,7 @@ unfoldable pub zeros : ℕ → List ℕ
 zeros n = replicate n 0
 
 unfoldable pub runText : List ℕ → List ℕ
-runText s = textFrom s (standing start (zeros 16384) (zeros 131072))
+runText s = textFrom s (standing start (zeros poolOctets) (zeros 131072))
 
 -- ---- a chunk of it: steps are taken while there is room for any of them in so many octets, from index `to` on. No run has more calls than
 -- octets of calls, or more of these than octets: where a progress says otherwise, nothing is run

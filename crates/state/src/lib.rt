@@ -19,7 +19,7 @@ use pool::POOL_OCTETS;
 #[repr(C)]
 pub struct State {
     pub lanes: [Lane; 8],
-    pub marks: [u16; 64],
+    pub marks: [u16; BLOCKS],
 }
 
 // Eight closed lanes, and every block free.
@@ -28,7 +28,7 @@ pub fn fresh_start() -> State
 {
     State {
         lanes: [CLOSED; 8],
-        marks: [FREE; 64],
+        marks: [FREE; BLOCKS],
     }
 }
 
