@@ -44,12 +44,17 @@ longest_is_replayed_whole() {
 # length_is_too_long N
 length_is_too_long() { run_of "$1" >"$work/run" && "$replay" <"$work/run" >"$work/replayed" && replayed_as 'too long'; }
 
+# defined NAME FILE: the number that a definition gives.
+defined() { sed -n "s/^$1 = \([0-9]*\)\$/\1/p" "$2" | grep .; }
+
 # The law that chunks are the run's text speaks of a pool and an output of these lengths, and one octet more than the longest file shows a longer one.
 rooms_are_as_defined() {
-    local rooms longest room
-    rooms=$(sed -n 's/^runText s = .* (zeros \([0-9]*\)) (zeros \([0-9]*\)))$/\1 \2/p' crates/replaying/specs/Run.antt) && [ -n "$rooms" ] &&
-        longest=$(sed -n 's/^longest = \([0-9]*\)$/\1/p' crates/replaying/specs/Run.antt) && [ -n "$longest" ] || return
-    for room in $rooms $((longest + 1)); do
+    local blocks octets output longest room
+    grep -q '^poolOctets = blocks \* blockOctets$' crates/pool/specs/Octets.antt &&
+        blocks=$(defined blocks crates/marks/specs/Blocks.antt) && octets=$(defined blockOctets crates/marks/specs/Blocks.antt) &&
+        output=$(sed -n 's/^runText s = .* (zeros poolOctets) (zeros \([0-9]*\)))$/\1/p' crates/replaying/specs/Run.antt | grep .) &&
+        longest=$(defined longest crates/replaying/specs/Run.antt) || return
+    for room in $((blocks * octets)) "$output" $((longest + 1)); do
         grep "^    \[0; $room\]$" crates/replay/src/main.rt || return
     done
 }
