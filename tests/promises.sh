@@ -45,7 +45,7 @@ every_edit_is_listed() {
 # So an edit keeps the code's form (below): what it changes is a constant, a variable or an argument, and the same form with the right one is proved.
 stands_at_a_fact() {
     local log=target/must-fail/${1%%::*}/$2/.log
-    grep -E "^fn $1: (not proved|no proof)" "$log" && ! grep -E 'has no `Need-|is not in scope|binders, but its type|does not cover this function' "$log"
+    grep -E "^fn $1: (not proved|no proof)" "$log" && ! grep -E 'has no `Need-|is not in scope|binders, but its type|has no field|does not cover this function' "$log"
 }
 
 # operators WORD EDIT: those in the lines of an edit of code that begin with WORD, in their order; text in quotes has none.
