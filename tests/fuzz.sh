@@ -28,7 +28,7 @@ fuzz_finds_faults() {
     for fault in "${faults[@]}"; do
         echo "the fault $fault"
         ! WRONG=$fault "$work/fuzz-wrong" tests/fuzz/corpus/* >"$work/out" 2>"$work/err" || return
-        grep -E 'not so: |AddressSanitizer: SEGV' "$work/err" || return
+        grep -E "not so: |${bad_access:-AddressSanitizer: SEGV}" "$work/err" || return
     done
 }
 

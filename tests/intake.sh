@@ -213,7 +213,7 @@ intake_full_output() {
 # The program without sanitizers, which need more memory than this.
 intake_no_memory() {
     dd if=/dev/zero of="$work/large" bs=1 count=0 seek=300000000 2>"$work/err" &&
-        (ulimit -v 100000 && exec "$work/intake-plain" "7:42:0:1:1:$work/large") >"$work/out" 2>"$work/err"
+        (ulimit -v "${little_memory:-100000}" && exec "$work/intake-plain" "7:42:0:1:1:$work/large") >"$work/out" 2>"$work/err"
     [ $? -eq 1 ] && [ ! -s "$work/out" ] && [ "$(wc -l <"$work/err")" -eq 1 ] && grep "can't read $work/large: " "$work/err"
 }
 

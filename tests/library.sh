@@ -188,7 +188,7 @@ splitter_full() {
 # The splitter that make built, since a sanitizer needs more memory than this.
 splitter_no_memory() {
     dd if=/dev/zero of="$work/large" bs=1 count=0 seek=300000000 2>"$work/err" &&
-        (ulimit -v 100000 && exec target/examples/splitter "$work/large") >"$work/out" 2>"$work/err"
+        (ulimit -v "${little_memory:-100000}" && exec target/examples/splitter "$work/large") >"$work/out" 2>"$work/err"
     [ $? -eq 1 ] && [ ! -s "$work/out" ] && [ "$(wc -l <"$work/err")" -eq 1 ] && grep "can't read $work/large: " "$work/err"
 }
 
