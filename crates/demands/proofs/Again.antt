@@ -1,9 +1,9 @@
 -- Octets not written stay, since storing sets places of the lane's group only; and a freed block is used again: it is free among the marks in which the next lane
 -- looks, so where its place is due it gets that lane's mark.
-use Prim.Native.Nat.{ℕ, zero, suc, _+_, _/_, _≤_, _<_}
+use Prim.Native.Nat.{ℕ, _+_, _/_, _≤_, _<_}
 use mathlib.Core.Path.{_≡_, refl, sym, ap, subst, _∙_}
 use mathlib.Core.Bool.{Bool, true, false, cond, _&&_}
-use mathlib.Core.List.{List, [], _∷_, _++_}
+use mathlib.Core.List.{List, [], _∷_}
 use native.Mathlib.Omega.{arith}
 use borrow.Author.Tests.{eqb-true, eq-eqb, le-ltb, lt-ltb, lt-leb}
 use lib.Dec.{eqb}
@@ -12,7 +12,7 @@ use lib.Seq.{getD-set-other}
 use Rattle.octets.proofs.Order.{either, both}
 use Rattle.packet.specs.Space.{flags, count}
 use Rattle.record.specs.Record.{mostPackets}
-use Rattle.marks.specs.Blocks.{free, mark, blocksFor, freedMark, freed}
+use Rattle.marks.specs.Blocks.{free, mark, blocksFor}
 use Rattle.pool.specs.Octets.{place, stored}
 use Rattle.marks.specs.Matching.{isFree}
 use Rattle.lane.specs.declared.Lane.{Lane}
@@ -24,20 +24,29 @@ use Rattle.grouping.specs.Packets.{termsOf, fault, userOctets}
 use Rattle.grouping.specs.Grouping.{repeats, goesOn}
 use Rattle.grouping.specs.Plans.{holdPlan, groupingPlan, acceptedPlan, packetPlan}
 use Rattle.grouping.specs.Steps.{laneAfter}
-use Rattle.lane.proofs.Fine.{is-fine, none-held}
+use Rattle.lane.proofs.Fine.{none-held}
 use Rattle.state.specs.declared.State.{State}
 use Rattle.intake.specs.declared.Answer.the-variants.{Held}
 use Rattle.state.specs.State.{laneAt, within}
 use Rattle.intake.specs.Calls.{settle}
 use Rattle.intake.specs.After.{marksAfter, poolAfter, userOf, taking, takingPool}
-use Rattle.demands.specs.Runs.{Intake, begun, Call, opens, takes, closes, toPacket, reply, after, run, next}
-use Rattle.demands.specs.Order.{wouldHold, wouldGroup}
-use Rattle.demands.specs.Demand3.{markAt, Belongs, marksFor, placeFor, OctetsStay, UsedAgain}
-use Rattle.demands.proofs.Sound.{Sound, lane-fine, opened-small}
-use Rattle.demands.proofs.Steps.{Stepped, refuses, repeats as again, strays, ends, holds, stepped}
-use Rattle.demands.proofs.Calls.{after-sound, reached-sound}
-use Rattle.demands.proofs.View.{Slot, stepFor, after-size, run-size, settled, took-reply, took-slot}
-use Rattle.demands.proofs.Shared.{lowest-at}
+use Rattle.demands.specs.Runs.{ours, Handed, begun, opens, takes, closes, toPacket, reply, after, run, laneOf}
+use Rattle.rule.specs.Rule as rule
+use Rattle.rule.specs.Rule.{takenOf, accepted}
+use Rattle.rule.proofs.Ruled.{repeats-same}
+use Rattle.demands.specs.Past.{Past, shut, since, settingsOf, acceptedIn, laneFrom, pastOf}
+use Rattle.calls.specs.Order.{wouldHold, wouldGroup}
+use Rattle.state.specs.Clauses.{markAt}
+use Rattle.demands.specs.Demand3.{NothingAmiss, HasRoom, Belongs, marksFor, placeFor, WritesInItsOwn, UsedAgain}
+use Rattle.demands.specs.Laws.{OctetsStay}
+use Rattle.calls.proofs.Sound.{Sound}
+use Rattle.calls.proofs.Steps.{Stepped, refuses, repeats as again, strays, ends, holds, stepped}
+use Rattle.demands.proofs.Reached.{after-sound, reached-sound}
+use Rattle.rule.proofs.Slots.{Slot}
+use Rattle.demands.proofs.View.{stepFor, run-size, settled, took-reply, took-slot}
+use Rattle.demands.proofs.Followed.{lane-is, lanes-are}
+use Rattle.demands.proofs.Unrefused.{gets-room}
+use Rattle.demands.proofs.Shared.{one-block, lowest-at}
 
 -- ---- storing sets the places of the octets that are stored
 stored-elsewhere : (marks : List ℕ) (i : ℕ) (pool : List ℕ) (k : ℕ) (ds : List ℕ) (at : ℕ) → ((j : ℕ) → k ≤ j → j < k + length ds → place marks i j ≡ at → ⊥)
@@ -60,7 +69,7 @@ module _ (s : State) (i : ℕ) (p pool : List ℕ) (at octets room : ℕ) where
   step-stays (holds a on n f e) other = stored-elsewhere _ i pool (cond on (laneAt s i .octets) 0) (userOf s i p) at (λ j low high. other j (omega arith))
 
 -- the lane after a packet is the step's
-lane-after : (x : Intake) → Sound (x .state) → length (x .pool) ≡ 16384 → (i : ℕ) (p out : List ℕ) → laneAt (after x (takes i p out) .state) i ≡ laneAfter (laneAt (x .state) i) (stepFor x i p out)
+lane-after : (x : Handed) → Sound (x .state) → length (x .pool) ≡ 16384 → (i : ℕ) (p out : List ℕ) → laneAt (after x (takes i p out) .state) i ≡ laneAfter (laneAt (x .state) i) (stepFor x i p out)
 lane-after x k size i p out = ap (λ (v : Slot). v .lane) (took-slot x k size i p out)
 
 pub octets-stay : OctetsStay
@@ -68,7 +77,7 @@ unfolding after taking takingPool
 octets-stay start calls (opens i settings) at other = refl
 octets-stay start calls (closes i out) at other = refl
 octets-stay start calls (takes i p out) at other =
-    let x : Intake = run (begun start) calls in
+    let x : Handed = run ours (begun start) calls in
     let k = reached-sound start calls in
     step-stays (x .state) i p (x .pool) at (length (x .pool)) (length out) (stepped (x .state) k i p (length (x .pool)) (length out))
     (λ j low. other j (rw (lane-after x k (run-size (begun start) calls ∙ start .whole) i p out) low))
@@ -101,35 +110,41 @@ module _ (ls : List Lane) (i : ℕ) (p : List ℕ) (room : ℕ) where
       simp (z, on) (fits-then _ true (own .octets + user) (simp (z, on) at most) (simp (z, on) at beside)))
       (λ h. absurd (omega (arith, simp (f, h) at some, none-held)))))
 
--- a free block is free among the marks in which the lane looks
-still-free : (i : ℕ) (marks : List ℕ) (b : ℕ) → b < length marks → getD marks b 0 ≡ free → getD (freed marks i) b 0 ≡ free
-unfolding freedMark
-still-free i [] b h e = absurd (omega arith)
-still-free i (o ∷ os) zero h e = rw e (either (eqb (free / 64) i) (λ f. simp f) (λ f. simp f))
-still-free i (o ∷ os) (suc b) h e = still-free i os b (omega arith) e
-
-looked-free : (s : State) → Sound s → (i : ℕ) (p : List ℕ) (b : ℕ) → b < 64 → markAt s b ≡ free → getD (marksFor s i p) b 0 ≡ free
-looked-free s k i p b h e = either (eqb (flags p) 1) (λ f. simp f (still-free i (s .marks) b (omega (arith, k .shape .1)) e)) (λ f. simp f e)
-
-run-append : (x : Intake) (calls more : List Call) → run x (calls ++ more) ≡ run (run x calls) more
-unfolding run
-run-append x [] more = refl
-run-append x (c ∷ calls) more = run-append (after x c) calls more
-
-pub used-again : UsedAgain
-unfolding run laneAfter
-used-again start calls c b j p out its is-free (open′, sound, few, fits) new (most, beside) due =
-    let y : Intake = after (run (begun start) calls) c in
-    let s : State = y .state in
-    let k : Sound s = after-sound (run (begun start) calls) (reached-sound start calls) c in
-    let sized : length (y .pool) ≡ 16384 = after-size (run (begun start) calls) c ∙ run-size (begun start) calls ∙ start .whole in
+-- ---- a freed block is used again
+used : (x : Handed) → Sound (x .state) → length (x .pool) ≡ 16384 → (b j : ℕ) (p out : List ℕ) → b < 64 → getD (marksFor (x .state) j p) b 0 ≡ free
+    → NothingAmiss (laneAt (x .state) j) p out → repeats (laneAt (x .state) j) (count p) ≡ false → HasRoom (x .state .lanes) j p
+    → placeFor (x .state) j p b < wouldHold (laneAt (x .state) j) p → markAt (after x (takes j p out) .state) b ≡ mark j (placeFor (x .state) j p b)
+unfolding laneAfter
+used x k size b j p out block is-free (open′, sound, few, fits) new (most, beside) due =
+    let s : State = x .state in
     let w : ℕ = wouldHold (laneAt s j) p in
     let h = holds-then (s .lanes) j p (length out) open′ sound new few most beside (omega (arith, due)) in
-    let step : stepFor y j p out ≡ Hold (h .0) (h .1 .0) (wouldGroup (laneAt s j) p) = settled y k sized j p out ∙ h .1 .1 in
-    let told : reply y (takes j p out) ≡ toPacket (Held (h .0 .missing) (h .0 .«given_up»)) out = took-reply y j p out ∙ rw step in
-    let holds′ : held (laneAt (after y (takes j p out) .state) j) ≡ w = rw (lane-after y k sized j p out, step) refl in
-    let lowest = lowest-at y k j p out out (h .0 .missing) (h .0 .«given_up») b (its .0) told in
-    let seen : isFree (getD (marksFor s j p) b 0) ≡ true = eq-eqb (getD (marksFor s j p) b 0) free (looked-free s k j p b (its .0) is-free) in
-    let bears : markAt (after y (takes j p out) .state) b ≡ mark j (placeFor s j p b) = lowest ∙ rw holds′ (simp (seen, lt-ltb (placeFor s j p b) w due)) in
-    let few-places : placeFor s j p b < 64 = omega (arith, due, most, is-fine (laneAt s j) (lane-fine s k j) .legal open′ .cap) in
-    subst (λ (z : Intake). Belongs (z .state) b j) (sym (run-append (begun start) calls (c ∷ takes j p out ∷ []))) (its .0, opened-small s k j open′, omega (arith, bears, few-places))
+    let step : stepFor x j p out ≡ Hold (h .0) (h .1 .0) (wouldGroup (laneAt s j) p) = settled x k size j p out ∙ h .1 .1 in
+    let told : reply x (takes j p out) ≡ toPacket (Held (h .0 .missing) (h .0 .«given_up»)) out = took-reply x j p out ∙ rw step in
+    let holds′ : held (laneAt (after x (takes j p out) .state) j) ≡ w = rw (lane-after x k size j p out, step) refl in
+    let lowest = lowest-at x k j p out out (h .0 .missing) (h .0 .«given_up») b block told in
+    let seen : isFree (getD (marksFor s j p) b 0) ≡ true = eq-eqb (getD (marksFor s j p) b 0) free is-free in
+    lowest ∙ rw holds′ (simp (seen, lt-ltb (placeFor s j p b) w due))
+
+-- what is new to the rule is new to the lane
+new-to-it : (past : Past) (p : List ℕ) → rule.repeats (acceptedIn past) (takenOf (settingsOf past) p) ≡ false → repeats (laneFrom past) (count p) ≡ false
+unfolding repeats
+new-to-it shut p e = refl
+new-to-it (since s ts) p e = repeats-same s (accepted ts) p ∙ e
+
+pub used-again : UsedAgain ours
+used-again start calls b j p out block is-free amiss new room due =
+    let here = lane-is start calls j in (
+      gets-room start calls j p out amiss room,
+      used (run ours (begun start) calls) (reached-sound start calls) (run-size (begun start) calls ∙ start .whole) b j p out block is-free
+          (rw here amiss) (rw here (new-to-it (pastOf ours j start calls) p new)) (rw (lanes-are start calls) room)
+          (subst (λ (l : Lane). placeFor (run ours (begun start) calls .state) j p b < wouldHold l p) (sym here) due),
+    )
+
+-- ---- a call writes only in blocks that are then its lane's: an octet that is written lies in the group that the lane then has
+pub writes-in-its-own : WritesInItsOwn ours
+writes-in-its-own start calls c at other =
+    let x : Handed = run ours (begun start) calls in
+    let s : State = after x c .state in
+    let k : Sound s = after-sound x (reached-sound start calls) c in
+    octets-stay start calls c at (λ q h e. other (subst (λ (o : ℕ). Belongs s (o / 256) (laneOf c)) e (one-block s k (laneOf c) (laneOf c) q q h h .0)))

@@ -8,7 +8,7 @@ use mathlib.Core.List.{List, [], _∷_}
 use native.Mathlib.Omega.{arith}
 use borrow.Author.Tests.{eqb-true, eqb-false, ltb-false}
 use lib.Dec.{ltb}
-use lib.ListN.{length, getD, set, replicate}
+use lib.ListN.{length, getD, set, replicate, take}
 use Rattle.octets.specs.Output.{unlessRefused, outputAfter}
 use Rattle.octets.proofs.Order.{either}
 use Rattle.record.specs.Record.{recordOctets}
@@ -19,7 +19,7 @@ use Rattle.lane.specs.declared.Lane.{Lane}
 use Rattle.grouping.specs.declared.Step.{Step}
 use Rattle.grouping.specs.declared.Step.the-variants.{Hold}
 use Rattle.grouping.specs.declared.Plan.{Plan}
-use Rattle.lane.specs.Lane.{closed, held, illegal, creditOf, holding}
+use Rattle.lane.specs.Lane.{closed, illegal, creditOf, holding}
 use Rattle.grouping.specs.Packets.{userData}
 use Rattle.grouping.specs.Plans.{packetPlan}
 use Rattle.grouping.specs.Steps.{laneAfter}
@@ -31,16 +31,31 @@ use Rattle.state.proofs.Soundness.{opened-small}
 use Rattle.state.proofs.Within.{others, need-closed, need-open, others-same, share-fits, alone-fits}
 use Rattle.intake.specs.Calls.{openedWith, openingRefusal, closingRefusal, settle}
 use Rattle.intake.specs.After.{opening, closing, closingOut, answerOf, taking}
-use Rattle.demands.specs.Runs.{Intake, Start, begun, Call, opens, takes, closes, Reply, toOpening, toPacket, reply, after, run, replies, laneOf, names, own, repliesTo}
+use Rattle.demands.specs.Runs.{ours, Handed, Start, begun, Call, opens, takes, closes, Reply, toOpening, toPacket, reply, after, run, replies, laneOf, names, own, repliesTo}
 use Rattle.demands.specs.Runs as runs
-use Rattle.demands.specs.Demand3.{StaysInShare, NoneUnpromised, AsAlone}
-use Rattle.demands.proofs.Sound.{Sound, not-unsound, fresh, lane-fine, unless}
-use Rattle.demands.proofs.Calls.{after-sound}
-use Rattle.demands.proofs.View.{Slot, slotIn, slotAfter, outFrom, stepFor, without, after-size, settled, took-reply, took-slot, opened-slot, closed-slot, other-slot}
+use Rattle.demands.specs.Demand3.{InShare}
+use Rattle.calls.proofs.Sound.{Sound, not-unsound, fresh, lane-fine, unless}
+use Rattle.demands.proofs.Reached.{after-sound}
+use Rattle.rule.proofs.Slots.{Slot, slotAfter, outFrom, without}
+use Rattle.demands.proofs.View.{slotIn, stepFor, after-size, settled, took-reply, took-slot, opened-slot, closed-slot, other-slot}
 
--- a lane holds no more than its share
-abbrev InShare : Lane → Type 0
-InShare l = held l ≤ l .settings .share
+-- the lane that the state has stays in its share along a run
+abbrev pub LaneInShare : ℕ → Handed → List Call → Type 0
+LaneInShare i x calls = (k : ℕ) → InShare (laneAt (run ours x (take k calls) .state) i)
+
+-- no opening of lane i is replied 23 along a run
+abbrev pub NeverUnpromised : ℕ → Handed → List Call → Type 0
+NeverUnpromised i x calls =
+    (k : ℕ) (settings : Settings) → getD calls k (closes i []) ≡ opens i settings → reply (run ours x (take k calls)) (opens i settings) ≡ toOpening 23 → ⊥
+
+-- and no other call is
+no-packets-reply : (x : Handed) (j : ℕ) (p out : List ℕ) → reply x (takes j p out) ≡ toOpening 23 → ⊥
+unfolding reply
+no-packets-reply x j p out e = let z : _≡_ {A = ℕ} 0 1 = cc in omega arith
+
+no-closings-reply : (x : Handed) (j : ℕ) (out : List ℕ) → reply x (closes j out) ≡ toOpening 23 → ⊥
+unfolding reply
+no-closings-reply x j out e = let z : _≡_ {A = ℕ} 0 1 = cc in omega arith
 
 -- ---- a plan is settled alike beside others as beside none, where the lane then holds no more than its share and the share fits beside the others
 module _ (xs ys : List Lane) (i : ℕ) (same : getD xs i closed ≡ getD ys i closed) (fits : within xs ≡ true) (none : others ys i ≡ 0) (eight : length ys ≡ 8) where
@@ -64,7 +79,7 @@ module _ (xs ys : List Lane) (i : ℕ) (same : getD xs i closed ≡ getD ys i cl
       simp (alone, beside)
 
 -- ---- the two runs side by side: x shared, y alone
-record Alike (i : ℕ) (x y : Intake) : Type 0 where
+record Alike (i : ℕ) (x y : Handed) : Type 0 where
   shared : Sound (x .state)
   alone : Sound (y .state)
   size : length (x .pool) ≡ 16384
@@ -72,7 +87,7 @@ record Alike (i : ℕ) (x y : Intake) : Type 0 where
   slot : slotIn x i ≡ slotIn y i
   no-other : others (y .state .lanes) i ≡ 0
 
-module _ (i : ℕ) (x y : Intake) (k : Alike i x y) where
+module _ (i : ℕ) (x y : Handed) (k : Alike i x y) where
   same-lane : laneAt (x .state) i ≡ laneAt (y .state) i
   same-lane = ap (λ (v : Slot). v .lane) (k .slot)
 
@@ -142,20 +157,20 @@ module _ (i : ℕ) (x y : Intake) (k : Alike i x y) where
     )
 
 -- a call of the source itself, in its share, and with its share promised
-together : (x y : Intake) (c : Call) (k : Alike (laneOf c) x y) → InShare (laneAt (after y c .state) (laneOf c)) → (reply x c ≡ toOpening 23 → ⊥) → Together (laneOf c) x y k c
+together : (x y : Handed) (c : Call) (k : Alike (laneOf c) x y) → InShare (laneAt (after y c .state) (laneOf c)) → (reply x c ≡ toOpening 23 → ⊥) → Together (laneOf c) x y k c
 together x y (opens i settings) k w never = opened-together i x y k settings never
 together x y (takes i p out) k w never = taken-together i x y k p out w
 together x y (closes i out) k w never = closed-together i x y k out
 
 -- its own calls open no other lane
-still-no-other : (y : Intake) (c : Call) → others (after y c .state .lanes) (laneOf c) ≡ others (y .state .lanes) (laneOf c)
+still-no-other : (y : Handed) (c : Call) → others (after y c .state .lanes) (laneOf c) ≡ others (y .state .lanes) (laneOf c)
 unfolding after opening closing taking
 still-no-other y (opens i settings) = unless (λ (t : State). others (t .lanes) i ≡ others (y .state .lanes) i) (openingRefusal (y .state) i settings (length (y .pool))) refl (λ e. others-same (y .state .lanes) i _)
 still-no-other y (takes i p out) = others-same (y .state .lanes) i _
 still-no-other y (closes i out) = unless (λ (t : State). others (t .lanes) i ≡ others (y .state .lanes) i) (closingRefusal (y .state) i (length (y .pool)) (length out)) refl (λ e. others-same (y .state .lanes) i _)
 
 module _ (i : ℕ) where
-  own-call : (x y : Intake) (c : Call) → laneOf c ≡ i → Alike i x y → InShare (laneAt (after y c .state) i) → (reply x c ≡ toOpening 23 → ⊥) → (reply x c ≡ reply y c) × Alike i (after x c) (after y c)
+  own-call : (x y : Handed) (c : Call) → laneOf c ≡ i → Alike i x y → InShare (laneAt (after y c .state) i) → (reply x c ≡ toOpening 23 → ⊥) → (reply x c ≡ reply y c) × Alike i (after x c) (after y c)
   own-call x y c e = subst (λ (j : ℕ). Alike j x y → InShare (laneAt (after y c .state) j) → (reply x c ≡ toOpening 23 → ⊥) → (reply x c ≡ reply y c) × Alike j (after x c) (after y c)) e
       (λ k w never. let both = together x y c k w never in (
         both .0,
@@ -169,7 +184,7 @@ module _ (i : ℕ) where
         },
       ))
 
-  other-call : (x y : Intake) (c : Call) → (laneOf c ≡ i → ⊥) → Alike i x y → Alike i (after x c) y
+  other-call : (x y : Handed) (c : Call) → (laneOf c ≡ i → ⊥) → Alike i x y → Alike i (after x c) y
   other-call x y c other k = record {
     shared = after-sound x (k .shared) c;
     alone = k .alone;
@@ -179,17 +194,23 @@ module _ (i : ℕ) where
     no-other = k .no-other;
   }
 
-  along : (calls : List Call) (x y : Intake) → Alike i x y → StaysInShare i y (own i calls) → NoneUnpromised (repliesTo i x calls) → repliesTo i x calls ≡ replies y (own i calls)
+  -- no opening of the lane is replied 23 along a run; so the first call isn't
+  never-now : (x : Handed) (c : Call) (calls : List Call) → laneOf c ≡ i → NeverUnpromised i x (c ∷ calls) → reply x c ≡ toOpening 23 → ⊥
+  unfolding run
+  never-now x (opens j settings) calls e never r = never 0 settings (ap (λ (m : ℕ). opens m settings) e) (subst (λ (m : ℕ). reply x (opens m settings) ≡ toOpening 23) e r)
+  never-now x (takes j p out) calls e never r = no-packets-reply x j p out r
+  never-now x (closes j out) calls e never r = no-closings-reply x j out r
+
+  along : (calls : List Call) (x y : Handed) → Alike i x y → LaneInShare i y (own i calls) → NeverUnpromised i x calls → repliesTo ours i x calls ≡ replies ours y (own i calls)
   unfolding own repliesTo replies run
   along [] x y k w never = refl
   along (c ∷ calls) x y k w never =
       either (names i c)
       (λ e.
-      let w′ : StaysInShare i y (c ∷ own i calls) = simp e at w in
-      let never′ : NoneUnpromised (reply x c ∷ repliesTo i (after x c) calls) = simp e at never in
-      let both = own-call x y c (eqb-true (laneOf c) i e) k (w′ 1) (never′ 0) in
-      simp e (ap₂ (λ (r : Reply) (rs : List Reply). r ∷ rs) (both .0) (along calls (after x c) (after y c) (both .1) (λ n. w′ (suc n)) (λ n. never′ (suc n)))))
-      (λ e. simp e (along calls (after x c) y (other-call x y c (eqb-false (laneOf c) i e) k) (simp e at w) (simp e at never)))
+      let w′ : LaneInShare i y (c ∷ own i calls) = simp e at w in
+      let both = own-call x y c (eqb-true (laneOf c) i e) k (w′ 1) (never-now x c calls (eqb-true (laneOf c) i e) never) in
+      simp e (ap₂ (λ (r : Reply) (rs : List Reply). r ∷ rs) (both .0) (along calls (after x c) (after y c) (both .1) (λ n. w′ (suc n)) (λ m. never (suc m)))))
+      (λ e. simp e (along calls (after x c) y (other-call x y c (eqb-false (laneOf c) i e) k) (simp e at w) (λ m. never (suc m))))
 
 -- ---- at the fresh start the lane is closed in both, whatever lies in the pools
 no-need : (n i : ℕ) → others (replicate n closed) i ≡ 0
@@ -211,9 +232,10 @@ pub begun-slot : (start : Start) (i : ℕ) → slotIn (begun start) i ≡ withou
 unfolding freshState gathered
 begun-slot start i = rw (all-closed 8 i)
 
-pub as-alone : AsAlone
+pub alike-replies : (i : ℕ) (calls : List Call) (shared alone : Start) → LaneInShare i (begun alone) (own i calls) → NeverUnpromised i (begun shared) calls
+    → repliesTo ours i (begun shared) calls ≡ replies ours (begun alone) (own i calls)
 unfolding freshState
-as-alone i calls shared alone w never =
+alike-replies i calls shared alone w never =
     along i calls (begun shared) (begun alone)
     (record {
       shared = fresh;

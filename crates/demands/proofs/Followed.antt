@@ -1,129 +1,175 @@
--- Along every run a lane with its group is the one that the grouping rule makes of its past, and so is each reply that isn't a refusal: what is
--- known of one call, carried through the run.
-use Prim.Native.Nat.{ℕ}
-use mathlib.Core.Path.{_≡_, refl, sym, subst, _∙_}
-use mathlib.Core.Bool.{Bool, true, false, cond, true≢false}
+-- Along every run a lane with its group is the one that the grouping rule makes of its past, and each reply is the rule's word or a refusal for its cause: what
+-- is known of one call, carried through the run.
+use Prim.Native.Nat.{ℕ, zero, suc, _<_}
+use mathlib.Core.Path.{_≡_, refl, sym, ap, ap₂, subst, _∙_}
+use mathlib.Core.Bool.{Bool, cond}
 use mathlib.Core.List.{List, [], _∷_}
-use mathlib.Core.Logic.{inl, inr}
 use mathlib.Core.Option.{Option, none, some}
 use native.Mathlib.Omega.{arith}
-use borrow.Author.Tests.{eqb-true, eqb-false}
+use borrow.Author.Tests.{eqb-true, eqb-false, ne-eqb}
 use lib.Dec.{eqb}
-use lib.ListN.{length}
+use lib.ListN.{length, getD}
 use Rattle.octets.specs.Octets.{one}
-use Rattle.octets.specs.Output.{unlessRefused, put, outputAfter}
+use Rattle.octets.specs.Order.{first, numbersOf}
+use Rattle.octets.specs.Output.{leading, unlessRefused, put, outputAfter}
 use Rattle.octets.proofs.Order.{either}
+use Rattle.packet.specs.Space.{counts}
 use Rattle.record.specs.Record.{recordOctets}
 use Rattle.lane.specs.declared.Settings.{Settings}
-use Rattle.lane.specs.Lane.{closed as closedLane, creditOf}
+use Rattle.lane.specs.declared.Lane.{Lane}
+use Rattle.lane.specs.Lane.{closed, creditOf}
 use Rattle.lane.proofs.Fine.{is-fine}
+use Rattle.grouping.specs.declared.Step.{Step}
+use Rattle.grouping.specs.declared.Step.the-variants as step
+use Rattle.grouping.specs.Packets.{userData}
+use Rattle.grouping.specs.Plans.{packetPlan}
+use Rattle.grouping.specs.Steps.{laneAfter}
 use Rattle.state.specs.State.{laneAt}
-use Rattle.intake.specs.Calls.{openedWith, openingRefusal, closingRefusal}
-use Rattle.intake.specs.After.{opening, closing, closingOut}
-use Rattle.intake.specs.declared.Answer.the-variants.{Refused, Repeat, Stray, Held, Unit}
-use Rattle.demands.specs.Runs.{Intake, Start, begun, Call, opens, takes, closes, Reply, toOpening, toPacket, toClosing, reply, after, run, laneOf, names}
-use Rattle.demands.specs.Rule.{Accepted, present, repeats, missing, group, unit, givesUp, answerWith, answerTo, endings, units, missingInAll, broken, lastCount}
-use Rattle.demands.specs.Past.{Past, shut, since, packetsOf, acceptedOf, isRefused, isAccepted, later, pastFrom, pastOf, isUnit, unitsToldAfter, unitsToldFrom, unitsTold}
-use Rattle.demands.specs.Demand2.{laneFrom, written}
-use Rattle.demands.proofs.Sound.{Sound, fresh, lane-fine}
-use Rattle.demands.proofs.Calls.{opened-at, closed-at, after-sound}
-use Rattle.demands.proofs.View.{Slot, slotIn, without, after-size, took-reply, settled, took-slot, opened-slot, closed-slot, other-slot}
+use Rattle.intake.specs.Calls.{openedWith, openingRefusal, closingRefusal, settle}
+use Rattle.intake.specs.After.{opening, closing, closingOut, answerOf, taking}
+use Rattle.intake.specs.Told.{told, unitKind}
+use Rattle.rule.specs.Rule.{Taken, takenOf, accepted, present, octetsIn, missing, group, unit, givesUp, answerWith, answerTo, withUnit, endings, units, missingInAll, broken, lastCount}
+use Rattle.rule.proofs.Slots.{Slot, without, slotAfter, outFrom}
+use Rattle.rule.proofs.Ruled as ruled
+use Rattle.rule.proofs.Ruled.{units-more, planned}
+use Rattle.calls.specs.Order.{refusalOf}
+use Rattle.demands.specs.Runs.{ours, Handed, Start, begun, Call, opens, takes, closes, Reply, toOpening, toPacket, toClosing, numberIn, reply, after, run, laneOf, names}
+use Rattle.demands.specs.Past.{Past, shut, since, acceptedIn, laneFrom, lanesFrom, later, pastFrom, pastOf}
+use Rattle.demands.specs.Demand2.{causes, refusedWith, replyBy}
+use Rattle.demands.specs.Demand2 as by
+use Rattle.demands.specs.Laws.{kindOf, unitsToldAfter, unitsToldFrom}
+use Rattle.calls.proofs.Sound.{Sound, not-unsound, fresh, lane-fine}
+use Rattle.calls.proofs.Order.{ordered}
+use Rattle.demands.proofs.Reached.{after-sound}
+use Rattle.demands.proofs.View.{slotIn, stepFor, after-size, took-reply, settled, took-slot, opened-slot, closed-slot, other-slot}
 use Rattle.demands.proofs.Alone.{begun-slot}
-use Rattle.demands.proofs.Ruled.{slotFrom, Right, Follows, units-more, packet-follows}
 
--- ---- an opening and a closing of lane v, by their refusals
-module _ (past : Past) (v : Slot) (same : v ≡ slotFrom past) (i refusal : ℕ) where
-  opening-follows : (settings : Settings) → (refusal ≡ 0 → v .lane .opened ≡ false)
-      → Follows past (opens i settings) (unlessRefused refusal (without (openedWith settings)) v) (toOpening refusal)
-  unfolding group endings missingInAll broken lastCount
-  opening-follows settings found =
-      either (eqb refusal 0)
-      (λ e. let z : refusal ≡ 0 = eqb-true refusal 0 e in rw z (done past (rw same at (found z))))
-      (λ e. simp e (same, inl refl))
-    where
-      done : (past : Past) → laneFrom past .opened ≡ false → Follows past (opens i settings) (without (openedWith settings)) (toOpening 0)
-      done shut e = (refl, inr refl)
-      done (since s ps) e = absurd (true≢false e)
+-- a lane with its group, by its past
+abbrev pub slotFrom : Past → Slot
+slotFrom past = record { lane = laneFrom past; group = octetsIn (group (acceptedIn past)) }
 
-  closing-follows : (out : List ℕ) → (refusal ≡ 0 → v .lane .opened ≡ true)
-      → Follows past (closes i out) (unlessRefused refusal (without closedLane) v) (toClosing refusal (outputAfter refusal (recordOctets (creditOf (v .lane))) out))
-  unfolding outputAfter group
-  closing-follows out found =
+-- after a call that was replied r the lane is v: it is its past's, the reply is the rule's unless it refuses, and how often Unit was answered since the opening
+-- is how many packets ended one
+pub record Follows (past : Past) (c : Call) (v : Slot) (r : Reply) : Type 0 where
+  pub slot : v ≡ slotFrom (later past c r)
+  pub word : r ≡ cond (eqb (numberIn r) 0) (by.ruled past c) (refusedWith (numberIn r) c)
+  pub told : unitsToldAfter (units (acceptedIn past)) c r ≡ units (acceptedIn (later past c r))
+
+-- ---- an opening and a closing of the past's lane, by their refusals
+module _ (past : Past) (i refusal : ℕ) where
+  opening-follows : (settings : Settings) → Follows past (opens i settings) (unlessRefused refusal (without (openedWith settings)) (slotFrom past)) (toOpening refusal)
+  unfolding accepted group endings missingInAll broken lastCount
+  opening-follows settings =
       either (eqb refusal 0)
-      (λ e. let z : refusal ≡ 0 = eqb-true refusal 0 e in rw (z, same) (done past (rw same at (found z))))
-      (λ e. simp e (same, inl refl))
+      (λ e. let z : refusal ≡ 0 = eqb-true refusal 0 e in rw z (record { slot = refl; word = refl; told = refl }))
+      (λ e. record { slot = simp e; word = simp e; told = simp e })
+
+  closing-follows : (out : List ℕ)
+      → Follows past (closes i out) (unlessRefused refusal (without closed) (slotFrom past)) (toClosing refusal (outputAfter refusal (recordOctets (creditOf (laneFrom past))) out))
+  unfolding outputAfter group endings missingInAll broken one
+  closing-follows out =
+      either (eqb refusal 0)
+      (λ e. let z : refusal ≡ 0 = eqb-true refusal 0 e in rw z (record { slot = refl; word = same past; told = refl }))
+      (λ e. record { slot = simp e; word = simp e; told = simp e })
     where
-      done : (past : Past) → laneFrom past .opened ≡ true → Follows past (closes i out) (without closedLane) (toClosing 0 (put out 0 (recordOctets (creditOf (laneFrom past)))))
-      done shut e = absurd (true≢false (sym e))
-      done (since s ps) e = (refl, inr refl)
+      same : (past : Past) → toClosing 0 (put out 0 (recordOctets (creditOf (laneFrom past)))) ≡ by.ruled past (closes i out)
+      same shut = refl
+      same (since s ts) = refl
+
+-- ---- a packet
+-- what the rule's word tells: no refusal, and Unit where it makes a unit
+word-tells : (u g : Option (List ℕ)) (m : ℕ) (givenUp : Bool) → (leading (told (answerWith u g m givenUp)) ≡ 0) × (eqb (kindOf (answerWith u g m givenUp)) unitKind ≡ present u)
+word-tells (some octets) g m givenUp = (refl, refl)
+word-tells none (some octets) m givenUp = (refl, refl)
+word-tells none none m givenUp = (refl, refl)
+
+-- what is replied after the step d
+abbrev replyAfter : Past → List ℕ → List ℕ → Step → Reply
+replyAfter past p out d = toPacket (answerOf d) (outFrom (octetsIn (group (acceptedIn past))) (userData (laneFrom past .settings) p) d out)
+
+abbrev Steps : Past → ℕ → List ℕ → List ℕ → Step → Type 0
+Steps past i p out d = Follows past (takes i p out) (slotAfter (slotFrom past) p d) (replyAfter past p out d)
+
+refused-follows : (past : Past) (i : ℕ) (p out : List ℕ) (k : ℕ) → (k ≡ 0 → ⊥) → Steps past i p out (step.Refuse k)
+unfolding laneAfter one
+refused-follows past i p out k not0 = let e = ne-eqb k 0 not0 in record { slot = simp e; word = simp e; told = simp e (omega arith) }
+
+module _ (s : Settings) (ts : List Taken) (i : ℕ) (p out : List ℕ) where
+  abbrev ps : List Taken
+  ps = accepted ts
+
+  abbrev q : Taken
+  q = takenOf s p
+
+  packet-follows : {d : Step} → ruled.Follows s ps p out d → Steps (since s ts) i p out d
+  unfolding laneAfter accepted one answerTo
+  packet-follows (ruled.refuses k not0) = refused-follows (since s ts) i p out k not0
+  packet-follows (ruled.repeats-it e) = record { slot = simp e; word = simp e; told = simp e (omega arith) }
+  packet-follows (ruled.accepts d new slot answer output) =
+      let t = word-tells (unit ps q) (group (q ∷ ps)) (missing ps q) (givesUp ps q) in
+      let same : replyAfter (since s ts) p out d ≡ toPacket (answerTo ps q) (withUnit out (unit ps q)) = ap₂ toPacket answer output in
+      rw same
+      (record {
+        slot = simp (t .0, new) slot;
+        word = simp (t .0, new);
+        told = simp (t .0, t .1, new) (sym (units-more ps q));
+      })
 
 -- ---- a call, where the lane that it names is its past's
-module _ (x : Intake) (k : Sound (x .state)) (size : length (x .pool) ≡ 16384) (past : Past) where
+of-past : (past : Past) (i : ℕ) (p out : List ℕ) (ls : List Lane) → laneFrom past .last < counts → Steps past i p out (settle ls i (packetPlan (laneFrom past) p (length out)))
+unfolding packetPlan settle
+of-past shut i p out ls few = refused-follows shut i p out 11 (λ z. omega arith)
+of-past (since s ts) i p out ls few = packet-follows s ts i p out (planned s (accepted ts) few p out ls i)
+
+module _ (x : Handed) (k : Sound (x .state)) (size : length (x .pool) ≡ 16384) (past : Past) where
   pub call-follows : (c : Call) → slotIn x (laneOf c) ≡ slotFrom past → Follows past c (slotIn (after x c) (laneOf c)) (reply x c)
   unfolding reply opening closing closingOut
-  call-follows (opens i settings) e =
-      rw (opened-slot x k size i settings)
-      (opening-follows past (slotIn x i) e i (openingRefusal (x .state) i settings (length (x .pool))) settings (λ z. opened-at (x .state) k i settings (length (x .pool)) z .1))
+  call-follows (opens i settings) e = rw (opened-slot x k size i settings, e) (opening-follows past i (openingRefusal (x .state) i settings (length (x .pool))) settings)
   call-follows (closes i out) e =
-      rw (closed-slot x k size i out)
-      (closing-follows past (slotIn x i) e i (closingRefusal (x .state) i (length (x .pool)) (length out)) out (closed-at (x .state) k i (length (x .pool)) (length out)))
+      rw (closed-slot x k size i out, e, ap (λ (v : Slot). v .lane) e) (closing-follows past i (closingRefusal (x .state) i (length (x .pool)) (length out)) out)
   call-follows (takes i p out) e =
+      let few = is-fine (laneAt (x .state) i) (lane-fine (x .state) k i) .last in
       rw (took-slot x k size i p out, took-reply x i p out, settled x k size i p out)
-      (packet-follows past (slotIn x i) e (is-fine (laneAt (x .state) i) (lane-fine (x .state) k i) .last) i p out (x .state .lanes) i)
+      (subst (λ (v : Slot). v .lane .last < counts → Follows past (takes i p out) (slotAfter v p (settle (x .state .lanes) i (packetPlan (v .lane) p (length out))))
+      (toPacket (answerOf (settle (x .state .lanes) i (packetPlan (v .lane) p (length out)))) (outFrom (v .group) (userData (v .lane .settings) p) (settle (x .state .lanes) i (packetPlan (v .lane) p (length out))) out)))
+      (sym e) (of-past past i p out (x .state .lanes)) few)
 
--- ---- how often Unit was answered follows the packets that end a unit, by the replies alone
-refused-tells : (r : Reply) → isRefused r ≡ true → (isAccepted r ≡ false) × (isUnit r ≡ false)
-refused-tells (toOpening refusal) e = (refl, refl)
-refused-tells (toClosing refusal out) e = (refl, refl)
-refused-tells (toPacket (Refused number) out) e = (refl, refl)
-refused-tells (toPacket Repeat out) e = absurd (true≢false (sym e))
-refused-tells (toPacket (Stray m givenUp) out) e = absurd (true≢false (sym e))
-refused-tells (toPacket (Held m givenUp) out) e = absurd (true≢false (sym e))
-refused-tells (toPacket (Unit n m givenUp) out) e = absurd (true≢false (sym e))
+  -- ---- it is refused exactly for the paper's causes, judged on the lanes
+  step-number : (d : Step) → leading (told (answerOf d)) ≡ refusalOf d
+  step-number (step.Refuse n) = refl
+  step-number step.Repeat = refl
+  step-number (step.Stray a) = refl
+  step-number (step.Hold a on n) = refl
+  step-number (step.Unit a on n) = refl
 
-word-tells : (u g : Option (List ℕ)) (m : ℕ) (givenUp : Bool) (out : List ℕ)
-    → (isAccepted (toPacket (answerWith u g m givenUp) out) ≡ true) × (isUnit (toPacket (answerWith u g m givenUp) out) ≡ present u)
-word-tells (some octets) g m givenUp out = (refl, refl)
-word-tells none (some octets) m givenUp out = (refl, refl)
-word-tells none none m givenUp out = (refl, refl)
-
-units-told-follow : (past : Past) (c : Call) (r : Reply) → Right past c r → unitsToldAfter (units (packetsOf past)) c r ≡ units (packetsOf (later past c r))
-unfolding endings one answerTo
-units-told-follow past (opens i settings) r h = either (isRefused r) (λ e. simp e) (λ e. simp e)
-units-told-follow past (closes i out) r h = either (isRefused r) (λ e. simp e) (λ e. simp e)
-units-told-follow past (takes i p out) r (inl e) = let t = refused-tells r e in simp (t .0, t .1) (omega arith)
-units-told-follow shut (takes i p out) r (inr e) = absurd (let z : _≡_ {A = ℕ} 0 1 = cc in omega arith)
-units-told-follow (since s ps) (takes i p out) r (inr e) =
-    let q : Accepted = acceptedOf s p in
-    either (repeats ps q)
-    (λ f. let z : toPacket Repeat out ≡ r = (let y = simp f at e in cc) in rw (← z) (omega arith))
-    (λ f.
-    let o : List ℕ = written out (unit ps q) in
-    let z : toPacket (answerTo ps q) o ≡ r = (let y = simp f at e in cc) in
-    let t = word-tells (unit ps q) (group (q ∷ ps)) (missing ps q) (givesUp ps q) o in
-    rw (← z) (rw (t .0, t .1) (sym (units-more ps q))))
+  pub call-number : (c : Call) → numberIn (reply x c) ≡ first 0 (numbersOf (causes (x .state .lanes) c))
+  unfolding reply opening openingRefusal closing closingRefusal taking
+  call-number (opens i settings) = rw size (simp (not-unsound (x .state) k))
+  call-number (closes i out) = rw size (simp (not-unsound (x .state) k))
+  call-number (takes i p out) =
+      step-number (stepFor x i p out) ∙ ordered (x .state) (k .shape) i p (length (x .pool)) (length out) ∙ rw size (simp (not-unsound (x .state) k))
 
 -- ---- what holds of lane i along a run: n is how often it was answered Unit since its opening
-pub record At (i : ℕ) (x : Intake) (past : Past) (n : ℕ) : Type 0 where
+pub record At (i : ℕ) (x : Handed) (past : Past) (n : ℕ) : Type 0 where
   pub sound : Sound (x .state)
   pub size : length (x .pool) ≡ 16384
   pub slot : slotIn x i ≡ slotFrom past
-  pub told : n ≡ units (packetsOf past)
+  pub told : n ≡ units (acceptedIn past)
 
 module _ (i : ℕ) where
   begun-at : (start : Start) → At i (begun start) shut 0
   unfolding endings group
   begun-at start = record { sound = fresh; size = start .whole; slot = begun-slot start i; told = refl }
 
-  module _ (x : Intake) (past : Past) (n : ℕ) (h : At i x past n) (c : Call) where
+  module _ (x : Handed) (past : Past) (n : ℕ) (h : At i x past n) (c : Call) where
     of-own : laneOf c ≡ i → At i (after x c) (later past c (reply x c)) (unitsToldAfter n c (reply x c))
     of-own e =
         let f : Follows past c (slotIn (after x c) (laneOf c)) (reply x c) = call-follows x (h .sound) (h .size) past c (rw e (h .slot)) in
         record {
           sound = after-sound x (h .sound) c;
           size = after-size x c ∙ h .size;
-          slot = subst (λ (j : ℕ). slotIn (after x c) j ≡ slotFrom (later past c (reply x c))) e (f .0);
-          told = rw (h .told) (units-told-follow past c (reply x c) (f .1));
+          slot = subst (λ (j : ℕ). slotIn (after x c) j ≡ slotFrom (later past c (reply x c))) e (f .slot);
+          told = rw (h .told) (f .told);
         }
 
     of-another : (laneOf c ≡ i → ⊥) → At i (after x c) past n
@@ -137,11 +183,49 @@ module _ (i : ℕ) where
     after-at : At i (after x c) (cond (names i c) (later past c (reply x c)) past) (cond (names i c) (unitsToldAfter n c (reply x c)) n)
     after-at = either (names i c) (λ e. simp e (of-own (eqb-true _ _ e))) (λ e. simp e (of-another (eqb-false _ _ e)))
 
-  run-at : (x : Intake) (past : Past) (n : ℕ) → At i x past n → (calls : List Call) → At i (run x calls) (pastFrom i past x calls) (unitsToldFrom i n x calls)
+  run-at : (x : Handed) (past : Past) (n : ℕ) → At i x past n → (calls : List Call) → At i (run ours x calls) (pastFrom ours i past x calls) (unitsToldFrom i n x calls)
   unfolding run pastFrom unitsToldFrom
   run-at x past n h [] = h
   run-at x past n h (c ∷ calls) = run-at (after x c) _ _ (after-at x past n h c) calls
 
-  pub reached-at : (start : Start) (calls : List Call)
-      → At i (run (begun start) calls) (pastOf i (begun start) calls) (unitsTold i (begun start) calls)
+  pub reached-at : (start : Start) (calls : List Call) → At i (run ours (begun start) calls) (pastOf ours i start calls) (unitsToldFrom i 0 (begun start) calls)
   reached-at start calls = run-at (begun start) shut 0 (begun-at start) calls
+
+-- ---- so the lanes are those of their pasts
+-- a list by its elements
+lanesBy : (ℕ → Lane) → ℕ → List Lane
+lanesBy f zero = []
+lanesBy f (suc n) = f 0 ∷ lanesBy (λ i. f (suc i)) n
+
+listed : (ls : List Lane) → ls ≡ lanesBy (λ i. getD ls i closed) (length ls)
+unfolding lanesBy
+listed [] = refl
+listed (l ∷ ls) = ap (λ (rest : List Lane). l ∷ rest) (listed ls)
+
+eight-lanes : (ls : List Lane) (past : ℕ → Past) → length ls ≡ 8 → ((i : ℕ) → getD ls i closed ≡ laneFrom (past i)) → ls ≡ lanesFrom past
+unfolding lanesBy
+eight-lanes ls past eight same = listed ls ∙ ap (lanesBy (λ i. getD ls i closed)) eight ∙ (λ j. lanesBy (λ i. same i j) 8)
+
+module _ (start : Start) (calls : List Call) where
+  abbrev x : Handed
+  x = run ours (begun start) calls
+
+  abbrev past : ℕ → Past
+  past i = pastOf ours i start calls
+
+  pub lane-is : (i : ℕ) → laneAt (x .state) i ≡ laneFrom (past i)
+  lane-is i = ap (λ (v : Slot). v .lane) (reached-at i start calls .slot)
+
+  pub lanes-are : x .state .lanes ≡ lanesFrom past
+  lanes-are = eight-lanes (x .state .lanes) past (reached-at 0 start calls .sound .shape .0) lane-is
+
+  pub number-is : (c : Call) → numberIn (reply x c) ≡ first 0 (numbersOf (causes (lanesFrom past) c))
+  number-is c =
+      let h = reached-at (laneOf c) start calls in
+      call-number x (h .sound) (h .size) (past (laneOf c)) c ∙ ap (λ (ls : List Lane). first 0 (numbersOf (causes ls c))) lanes-are
+
+  pub reply-is : (c : Call) → reply x c ≡ replyBy past c
+  reply-is c =
+      let h = reached-at (laneOf c) start calls in
+      call-follows x (h .sound) (h .size) (past (laneOf c)) c (h .slot) .word
+      ∙ ap (λ (n : ℕ). cond (eqb n 0) (by.ruled (past (laneOf c)) c) (refusedWith n c)) (number-is c)

@@ -9,7 +9,7 @@ use native.Mathlib.Decide.{decLt}
 use native.Mathlib.Omega.{arith}
 use borrow.Author.Tests.{eqb-true, eqb-false, ltb-true, ltb-false}
 use lib.Dec.{ltb}
-use lib.ListN.{length, getD}
+use lib.ListN.{length, getD, take}
 use Rattle.octets.proofs.Order.{either}
 use Rattle.marks.specs.Blocks.{free, mark, blocksFor, freed}
 use Rattle.marks.specs.Matching.{count, isFree}
@@ -24,13 +24,18 @@ use Rattle.state.specs.declared.State.{State}
 use Rattle.state.specs.State.{laneAt}
 use Rattle.intake.specs.Calls.{openingRefusal, closingRefusal}
 use Rattle.intake.specs.After.{releasedFrom, grown, marksAfter, userOf, opening, closing, taking}
-use Rattle.demands.specs.Runs.{Intake, Call, opens, takes, closes, after, laneOf}
-use Rattle.demands.specs.Demand3.{markAt, Belongs, freeBelow}
-use Rattle.demands.proofs.Sound.{Sound, unless}
-use Rattle.demands.proofs.Marks.{kept, blocksKept, grows, kept-length, just-its-blocks, none-without, released-free}
-use Rattle.demands.proofs.Steps.{Stepped, stepped, group-grows}
-use Rattle.demands.proofs.Steps as now
-use Rattle.demands.proofs.Calls.{closed-small}
+use Rattle.demands.specs.Runs.{Handed, Call, opens, takes, closes, after, laneOf}
+use Rattle.state.specs.Clauses.{markAt}
+use Rattle.demands.specs.Demand3.{Belongs}
+use Rattle.calls.proofs.Sound.{Sound, unless}
+use Rattle.calls.proofs.Marks.{kept, blocksKept, grows, kept-length, just-its-blocks, none-without, released-free}
+use Rattle.calls.proofs.Steps.{Stepped, stepped, group-grows}
+use Rattle.calls.proofs.Steps as now
+use Rattle.calls.proofs.Calls.{closed-small}
+
+-- how many blocks below block b are free
+abbrev pub freeBelow : List ℕ → ℕ → ℕ
+freeBelow marks b = count isFree (take b marks)
 
 -- ---- freeing leaves a block that isn't the lane's, so all of them where the lane has none
 freed-keeps : (i : ℕ) (marks : List ℕ) (b : ℕ) → b < length marks → (getD marks b 0 / 64 ≡ i → ⊥) → getD (freed marks i) b 0 ≡ getD marks b 0
@@ -124,7 +129,7 @@ module _ (s : State) (k : Sound s) (i b : ℕ) (block : b < 64) where
       let g = group-grows s k i a on n (length (userOf s i p)) f e in grown-moves (f .small) on n (g .0) (g .1)
 
 -- a call moves blocks only between the free ones and its lane's
-pub call-moves : (x : Intake) → Sound (x .state) → (c : Call) (b : ℕ) → b < 64 → Moved b (laneOf c) (markAt (x .state) b) (markAt (after x c .state) b)
+pub call-moves : (x : Handed) → Sound (x .state) → (c : Call) (b : ℕ) → b < 64 → Moved b (laneOf c) (markAt (x .state) b) (markAt (after x c .state) b)
 unfolding after opening closing taking
 call-moves x k (opens i settings) b h =
     unless (λ (t : State). Moved b i (markAt (x .state) b) (markAt t b)) (openingRefusal (x .state) i settings (length (x .pool))) (inl refl) (λ e. inl refl)

@@ -1,8 +1,8 @@
 -- Demand 3, of the blocks: every state that a run reaches is sound, so what holds of one sound state and of one call from there holds of the run.
 use Prim.Native.Nat.{ℕ, _+_, _/_, _<_}
 use Prim.{Unit}
-use mathlib.Core.Path.{_≡_, refl, ap, _∙_}
-use mathlib.Core.Bool.{Bool, true, false, not}
+use mathlib.Core.Path.{_≡_, refl, sym, ap, _∙_}
+use mathlib.Core.Bool.{Bool, true, false, not, cond}
 use mathlib.Core.List.{List, map}
 use mathlib.Core.Logic.{inl, inr, ⊎-elim}
 use native.Mathlib.Decide.{decLt}
@@ -11,10 +11,12 @@ use lib.Dec.{eqb, ltb, leb}
 use lib.ListN.{length, getD, set, length-map, List·getD-eq-default}
 use lib.Seq.{getD-set-same}
 use Rattle.octets.proofs.Order.{either}
-use Rattle.packet.specs.Space.{flags, count}
+use Rattle.packet.specs.Space.{flags}
+use Rattle.packet.specs.Space as space
 use Rattle.record.specs.Record.{mostPackets}
-use Rattle.marks.specs.Blocks.{free, mark, blocksFor, find}
+use Rattle.marks.specs.Blocks.{mark, blocksFor, find}
 use Rattle.pool.specs.Octets.{place}
+use Rattle.marks.specs.Matching.{count, isFree, sum}
 use Rattle.marks.proofs.Finding.{bears}
 use Rattle.marks.proofs.Matched.{matched}
 use Rattle.lane.specs.declared.Lane.{Lane}
@@ -22,7 +24,7 @@ use Rattle.grouping.specs.declared.Added.{Added}
 use Rattle.grouping.specs.declared.Step.{Step}
 use Rattle.grouping.specs.declared.Step.the-variants as step
 use Rattle.grouping.specs.declared.Plan.{Plan}
-use Rattle.lane.specs.Lane.{closed, held, need, holding}
+use Rattle.lane.specs.Lane.{closed, held, holding}
 use Rattle.grouping.specs.Packets.{termsOf, fault, userOctets}
 use Rattle.grouping.specs.Grouping.{repeats, goesOn, addedFrom}
 use Rattle.grouping.specs.Plans.{holdPlan, unitPlan, groupingPlan, acceptedPlan, packetPlan}
@@ -35,24 +37,27 @@ use Rattle.intake.specs.declared.Answer.the-variants.{Held}
 use Rattle.state.specs.State.{laneAt, within, unsound}
 use Rattle.intake.specs.Calls.{settle, packetStep}
 use Rattle.intake.specs.After.{marksAfter, userOf, answerOf, answered, taking}
-use Rattle.demands.specs.Runs.{Intake, begun, takes, toPacket, reply, after, run, reached, laneOf}
-use Rattle.demands.specs.Groups.{HeldPlace}
-use Rattle.demands.specs.Demand3.{markAt, blockOf, marksFor, keeps, marked, WithinCap, NoBlockInTwo, NoneLost, OnlyItsOwn, Freed, TakesLowest}
-use Rattle.demands.proofs.Sound.{Sound, lane-fine}
-use Rattle.demands.proofs.Blocks.{free-or-held}
-use Rattle.demands.proofs.Marks.{kept, blocksKept, just-its-blocks}
-use Rattle.demands.proofs.Steps.{Stepped, stepped, group-grows}
-use Rattle.demands.proofs.Steps as now
-use Rattle.demands.proofs.Calls.{after-sound, reached-sound}
-use Rattle.demands.proofs.Groups.{has-places}
+use Rattle.demands.specs.Runs.{ours, Handed, begun, takes, toPacket, reply, after, run, laneOf}
+use Rattle.calls.specs.Groups.{HeldPlace}
+use Rattle.state.specs.Clauses.{markAt}
+use Rattle.demands.specs.Demand3.{Belongs, blockOf, marksFor, WithinCap, NoBlockInTwo, NoneLost}
+use Rattle.demands.specs.Laws.{marked, OnlyItsOwn, Freed, TakesLowest}
+use Rattle.calls.proofs.Sound.{Sound, lane-fine}
+use Rattle.calls.proofs.Blocks.{free-or-held}
+use Rattle.calls.proofs.Marks.{kept, blocksKept, just-its-blocks}
+use Rattle.calls.proofs.Steps.{Stepped, stepped, group-grows}
+use Rattle.calls.proofs.Steps as now
+use Rattle.demands.proofs.Reached.{after-sound, reached-sound}
+use Rattle.calls.proofs.Groups.{has-places}
+use Rattle.demands.proofs.Followed.{lane-is, lanes-are}
 use Rattle.demands.proofs.Moves.{grown-marked, call-moves, none-belongs, freed-released}
 
 -- ---- No source ever holds more than its cap
-pub within-cap : WithinCap
+pub within-cap : WithinCap ours
 within-cap start calls i small =
-    let s : State = run (begun start) calls .state in
+    let s : State = run ours (begun start) calls .state in
     let k : Sound s = reached-sound start calls in
-    (just-its-blocks s k i small .0, is-fine (laneAt s i) (lane-fine s k i) .within)
+    rw (← lane-is start calls i) (just-its-blocks s k i small .0, is-fine (laneAt s i) (lane-fine s k i) .within)
 
 -- ---- No block belongs to two sources
 -- a lane with octets is one of the eight
@@ -72,40 +77,42 @@ octet-bears s k i q h =
     let block : blockOf s i q ≡ find (s .marks) m = omega arith in
     (omega (arith, k .shape .1), rw block (bears (s .marks) m there), omega (arith, held-most (laneAt s i) (lane-fine s k i) .1))
 
-pub no-block-in-two : NoBlockInTwo
-no-block-in-two start calls i j q r hq hr =
-    let s : State = reached start calls in
-    let k : Sound s = reached-sound start calls in
+pub one-block : (s : State) → Sound s → (i j q r : ℕ) → q < laneAt s i .octets → r < laneAt s j .octets
+    → Belongs s (blockOf s i q) i × (blockOf s i q ≡ blockOf s j r → (i ≡ j) × (q / 256 ≡ r / 256))
+one-block s k i j q r hq hr =
     let here = octet-bears s k i q hq in
     let there = octet-bears s k j r hr in (
       (here .0, has-octets s k i q hq, omega (arith, here .1, here .2)),
       λ e. let same : markAt s (blockOf s i q) ≡ markAt s (blockOf s j r) = ap (markAt s) e in (omega (arith, same, here .1, here .2, there .1, there .2), omega (arith, same, here .1, here .2, there .1, there .2)),
     )
 
+pub no-block-in-two : NoBlockInTwo ours
+no-block-in-two start calls i j q r = rw (← lane-is start calls i, ← lane-is start calls j) (one-block (run ours (begun start) calls .state) (reached-sound start calls) i j q r)
+
 -- ---- no sequence of calls loses a block
-pub none-lost : NoneLost
+pub none-lost : NoneLost ours
 none-lost start calls =
-    let s : State = reached start calls in
+    let s : State = run ours (begun start) calls .state in
     let k : Sound s = reached-sound start calls in (
       λ b h. ⊎-elim inl (λ (p : HeldPlace s (markAt s b)). inr (p .lane, (h, p .small, omega (arith, p .bears, p .holds, held-most (laneAt s (p .lane)) (lane-fine s k (p .lane)) .0)))) (free-or-held s k b h),
-      matched (s .marks) (map held (s .lanes)) (k .shape .1) (length-map (s .lanes) held ∙ k .shape .0) (k .marks) .whole,
+      ap (λ (ls : List Lane). count isFree (s .marks) + sum (map held ls)) (sym (lanes-are start calls)) ∙ matched (s .marks) (map held (s .lanes)) (k .shape .1) (length-map (s .lanes) held ∙ k .shape .0) (k .marks) .whole,
     )
 
 -- ---- a call moves blocks only between the free ones and its lane's
 pub only-its-own : OnlyItsOwn
-only-its-own start calls c b block = call-moves (run (begun start) calls) (reached-sound start calls) c b block
+only-its-own start calls c b block = call-moves (run ours (begun start) calls) (reached-sound start calls) c b block
 
 -- a block stays its lane's only where the lane has a group
 pub freed : Freed
 freed start calls c b its shut =
-    let x : Intake = run (begun start) calls in
+    let x : Handed = run ours (begun start) calls in
     let next : Sound (after x c .state) = after-sound x (reached-sound start calls) c in
     ⊎-elim (λ same. none-belongs (after x c .state) next (laneOf c) b (its .0, its .1, rw same (its .2)) shut)
     (λ moved. ⊎-elim (λ e. e) (λ still. none-belongs (after x c .state) next (laneOf c) b still shut) (moved .1))
     (only-its-own start calls c b (its .0))
 
 -- what was answered is what the step tells
-step-told : (x : Intake) (i : ℕ) (p out left : List ℕ) (a : Answer) → reply x (takes i p out) ≡ toPacket a left
+step-told : (x : Handed) (i : ℕ) (p out left : List ℕ) (a : Answer) → reply x (takes i p out) ≡ toPacket a left
     → answerOf (packetStep (x .state) i p (length (x .pool)) (length out)) ≡ a
 unfolding reply taking
 step-told x i p out left a e = cc
@@ -136,14 +143,14 @@ module _ (ls : List Lane) (i : ℕ) (l : Lane) (p : List ℕ) (room : ℕ) where
   unfolding packetPlan acceptedPlan groupingPlan settle
   plan-flagged =
       let user : ℕ = userOctets (l .settings) p in
-      let a : Added = addedFrom l (flags p) (count p) in
+      let a : Added = addedFrom l (flags p) (space.count p) in
       of-either Says (not (l .opened)) (λ e. tt)
       (λ e. of-either Says (not (eqb (fault (termsOf l) p) 0)) (λ e. tt)
-      (λ e. of-either Says (repeats l (count p)) (λ e. tt)
+      (λ e. of-either Says (repeats l (space.count p)) (λ e. tt)
       (λ e. of-either Says (leb mostPackets (l .packets)) (λ e. tt)
       (λ e. of-either Says (eqb (flags p) 3) (λ e. to-end a false user)
       (λ e. of-either Says (eqb (flags p) 1) (λ f. to-hold a false user (simp f))
-      (λ f. of-either Says (not (goesOn l (flags p) (count p))) (λ e. tt)
+      (λ f. of-either Says (not (goesOn l (flags p) (space.count p))) (λ e. tt)
       (λ e. of-either Says (eqb (flags p) 0) (λ e. to-hold a true (l .octets + user) (simp f)) (λ e. to-end a true (l .octets + user)))))))))
 
 step-flagged : (s : State) (i : ℕ) (p : List ℕ) (octets room : ℕ) → Flagged p (packetStep s i p octets room)
@@ -154,7 +161,7 @@ step-flagged s i p octets room = of-either (Flagged p) (unsound s octets) (λ e.
 module _ (s : State) (k : Sound s) (i : ℕ) (p : List ℕ) where
   -- what is kept by the flags is what the step keeps
   kept-by-flags : i < 8 → (on : Bool) → on ≡ not (eqb (flags p) 1)
-      → (marksFor s i p ≡ kept (s .marks) i (laneAt s i) on) × (keeps s i p ≡ blocksKept (s .marks) i (laneAt s i) on)
+      → (marksFor s i p ≡ kept (s .marks) i (laneAt s i) on) × (cond (eqb (flags p) 1) 0 (held (laneAt s i)) ≡ blocksKept (s .marks) i (laneAt s i) on)
   kept-by-flags small on e =
       either (eqb (flags p) 1)
       (λ f. let off : on ≡ false = simp f at e in simp (f, off) (freed-released s k i small, refl))
@@ -179,7 +186,7 @@ module _ (s : State) (k : Sound s) (i : ℕ) (p : List ℕ) where
         let here : getD (set (s .lanes) i next) i closed ≡ next = getD-set-same (s .lanes) i next closed (omega (arith, k .shape .0, f .small)) in
         rw (same .0, same .1, here) (grown-marked s k i b block (f .small) on n (g .0) (g .1))
 
-pub lowest-at : (x : Intake) → Sound (x .state) → (i : ℕ) (p out left : List ℕ) (m : ℕ) (givenUp : Bool) (b : ℕ) → b < 64 → reply x (takes i p out) ≡ toPacket (Held m givenUp) left
+pub lowest-at : (x : Handed) → Sound (x .state) → (i : ℕ) (p out left : List ℕ) (m : ℕ) (givenUp : Bool) (b : ℕ) → b < 64 → reply x (takes i p out) ≡ toPacket (Held m givenUp) left
     → markAt (after x (takes i p out) .state) b ≡ marked (x .state) i p b (held (laneAt (after x (takes i p out) .state) i))
 unfolding after taking
 lowest-at x k i p out left m givenUp b block e =
@@ -187,4 +194,4 @@ lowest-at x k i p out left m givenUp b block e =
     (step-flagged (x .state) i p (length (x .pool)) (length out)) (step-told x i p out left (Held m givenUp) e)
 
 pub takes-lowest : TakesLowest
-takes-lowest start calls i p out left m givenUp b block e = lowest-at (run (begun start) calls) (reached-sound start calls) i p out left m givenUp b block e
+takes-lowest start calls i p out left m givenUp b block e = lowest-at (run ours (begun start) calls) (reached-sound start calls) i p out left m givenUp b block e

@@ -6,7 +6,7 @@ use mathlib.Core.Path.{_≡_, refl, ap, ap₂, _∙_}
 use mathlib.Core.Bool.{Bool, true, false, not, _&&_, _||_}
 use mathlib.Core.List.{List}
 use native.Mathlib.Omega.{arith}
-use borrow.Author.Tests.{eqb-false, eq-eqb, le-leb, le-ltb, lt-leb}
+use borrow.Author.Tests.{eqb-false, eq-eqb, le-ltb, lt-leb}
 use lib.Dec.{eqb, ltb, leb}
 use lib.ListN.{length, getD, set}
 use Rattle.octets.proofs.Order.{either, both}
@@ -24,19 +24,22 @@ use Rattle.grouping.specs.Grouping.{repeats, goesOn, addedFrom}
 use Rattle.grouping.specs.Plans.{holdPlan, unitPlan, groupingPlan, acceptedPlan, packetPlan}
 use Rattle.lane.proofs.Fine.{is-fine}
 use Rattle.state.specs.declared.State.{State}
+use Rattle.intake.specs.declared.Answer.the-variants as answer
 use Rattle.state.specs.State.{laneAt, within}
 use Rattle.state.proofs.Within.{share-fits}
-use Rattle.intake.specs.Calls.{openingRefusal, closingRefusal, settle}
+use Rattle.intake.specs.Calls.{openedWith, openingRefusal, closingRefusal, settle}
 use Rattle.intake.specs.After.{answerOf, opening, closing, taking, takingPool, takingOut}
 use Rattle.demands.specs.Runs as runs
-use Rattle.demands.specs.Runs.{Intake, Start, begun, Call, toOpening, toPacket, reply, run, reached, takes}
-use Rattle.demands.specs.Order.{wouldGroup, wouldHold, wouldWrite}
-use Rattle.demands.specs.Past.{isRefused}
-use Rattle.demands.specs.Demand3.{NothingAmiss, HasRoom, RoomInShare, GetsRoom, RepeatsChangeNothing, Opens, Closes}
-use Rattle.demands.proofs.Sound.{not-unsound, lane-fine}
-use Rattle.demands.proofs.Calls.{reached-sound}
+use Rattle.demands.specs.Runs.{ours, Handed, Start, begun, Call, toPacket, reply, run, takes, isRefused}
+use Rattle.calls.specs.Order.{wouldGroup, wouldHold, wouldWrite}
+use Rattle.demands.specs.Past.{laneFrom}
+use Rattle.demands.specs.Demand3.{NothingAmiss, HasRoom, RoomInShare, OpensIfFine, ClosesIfFine}
+use Rattle.demands.specs.Laws.{GetsRoom, RepeatsChangeNothing}
+use Rattle.calls.proofs.Sound.{not-unsound, lane-fine}
+use Rattle.demands.proofs.Reached.{reached-sound}
 use Rattle.demands.proofs.View.{stepFor, run-size, settled, took-reply}
-use Rattle.demands.proofs.Laws.{repeat-leaves}
+use Rattle.calls.proofs.Laws.{repeat-leaves}
+use Rattle.demands.proofs.Followed.{lane-is, lanes-are}
 
 -- ---- a step that is no refusal
 abbrev Taken : Step → Type 0
@@ -53,7 +56,7 @@ taken-told (Stray a) out h = refl
 taken-told (Hold a on n) out h = refl
 taken-told (step.Unit a on n) out h = refl
 
-taken-reply : (x : Intake) (i : ℕ) (p out : List ℕ) → Taken (stepFor x i p out) → isRefused (reply x (takes i p out)) ≡ false
+taken-reply : (x : Handed) (i : ℕ) (p out : List ℕ) → Taken (stepFor x i p out) → isRefused (reply x (takes i p out)) ≡ false
 unfolding reply taking
 taken-reply x i p out h = taken-told (stepFor x i p out) (takingOut (x .state) i p (x .pool) out) h
 
@@ -95,8 +98,8 @@ module _ (ls : List Lane) (i : ℕ) (p : List ℕ) (room : ℕ) where
 
 -- ---- a packet
 module _ (start : Start) (calls : List Call) (i : ℕ) (packet out : List ℕ) where
-  abbrev x : Intake
-  x = run (begun start) calls
+  abbrev x : Handed
+  x = run ours (begun start) calls
 
   abbrev l : Lane
   l = laneAt (x .state) i
@@ -104,37 +107,47 @@ module _ (start : Start) (calls : List Call) (i : ℕ) (packet out : List ℕ) w
   planned : stepFor x i packet out ≡ settle (x .state .lanes) i (packetPlan l packet (length out))
   planned = settled x (reached-sound start calls) (run-size (begun start) calls ∙ start .whole) i packet out
 
-  gets : NothingAmiss l packet out → HasRoom (x .state) i packet → isRefused (reply x (takes i packet out)) ≡ false
+  gets : NothingAmiss l packet out → HasRoom (x .state .lanes) i packet → isRefused (reply x (takes i packet out)) ≡ false
   gets (open′, sound, few, fits) (most, beside) =
       let ls : List Lane = x .state .lanes in
       let h = takes-it ls i packet (length out) open′ sound (accepts ls i packet (length out) few (grouping ls i packet (length out) most beside fits)) in
       taken-reply x i packet out (rw planned h)
 
-pub gets-room : GetsRoom
-gets-room start calls i packet out fine′ room = gets start calls i packet out fine′ room
+  -- a share that was promised is there
+  in-share : NothingAmiss l packet out → wouldHold l packet ≤ l .settings .share → isRefused (reply x (takes i packet out)) ≡ false
+  in-share fine′ few =
+      let k = reached-sound start calls in
+      gets fine′
+      (omega (arith, few, is-fine l (lane-fine (x .state) k i) .legal (fine′ .0) .share), share-fits (x .state .lanes) i (fine′ .0) (wouldGroup l packet) few (k .room))
 
-pub room-in-share : RoomInShare
-room-in-share start calls i packet out fine′ few =
-    let s = reached start calls in
-    let k = reached-sound start calls in
-    gets start calls i packet out fine′
-    (omega (arith, few, is-fine (laneAt s i) (lane-fine s k i) .legal (fine′ .0) .share), share-fits (s .lanes) i (fine′ .0) (wouldGroup (laneAt s i) packet) few (k .room))
+  again : l .opened ≡ true → fault (termsOf l) packet ≡ 0 → repeats l (count packet) ≡ true
+      → (reply x (takes i packet out) ≡ toPacket answer.Repeat out) × (runs.after x (takes i packet out) ≡ x)
+  unfolding packetPlan acceptedPlan settle runs.after taking takingPool
+  again open′ sound same =
+      let step : stepFor x i packet out ≡ Repeat = planned ∙ simp (open′, sound, same) in
+      let left = repeat-leaves (x .state) i packet (x .pool) out step in
+      (took-reply x i packet out ∙ rw step, ap₂ (λ (s : State) (p : List ℕ). record { state = s; pool = p }) (left .0) (left .1))
+
+-- the lanes are those of their pasts
+pub gets-room : GetsRoom
+gets-room start calls i packet out fine′ room =
+    gets start calls i packet out (rw (lane-is start calls i) fine′) (rw (lanes-are start calls) room)
+
+pub room-in-share : RoomInShare ours
+room-in-share start calls i packet out = rw (← lane-is start calls i) (in-share start calls i packet out)
 
 pub repeats-change-nothing : RepeatsChangeNothing
-unfolding packetPlan acceptedPlan settle runs.after taking takingPool
-repeats-change-nothing start calls i packet out open′ sound same =
-    let x : Intake = run (begun start) calls in
-    let again : stepFor x i packet out ≡ Repeat = planned start calls i packet out ∙ simp (open′, sound, same) in
-    let left = repeat-leaves (x .state) i packet (x .pool) out again in
-    (took-reply x i packet out ∙ rw again, ap₂ (λ (s : State) (p : List ℕ). record { state = s; pool = p }) (left .0) (left .1))
+repeats-change-nothing start calls i packet out = rw (← lane-is start calls i) (again start calls i packet out)
 
 -- ---- an opening and a closing
-pub opens : Opens
+pub opens-if-fine : OpensIfFine ours
 unfolding reply opening openingRefusal
-opens start calls i settings small shut legal fits =
-    let x : Intake = run (begun start) calls in
-    ap toOpening (rw (run-size (begun start) calls ∙ start .whole)
-    (simp (not-unsound (x .state) (reached-sound start calls), le-ltb 7 i (omega arith), shut, legal, fits)))
+opens-if-fine start calls i settings small shut′ legal fits =
+    let x : Handed = run ours (begun start) calls in
+    let closed′ : laneAt (x .state) i .opened ≡ false = ap (λ (l : Lane). l .opened) (lane-is start calls i ∙ ap laneFrom shut′) in
+    let within′ : within (set (x .state .lanes) i (openedWith settings)) ≡ true = rw (lanes-are start calls) fits in
+    rw (run-size (begun start) calls ∙ start .whole)
+    (simp (not-unsound (x .state) (reached-sound start calls), le-ltb 7 i (omega arith), closed′, legal, within′))
 
 tallies-possible : (l : Lane) → fine l ≡ true → talliesPossible l ≡ true
 unfolding fine
@@ -142,10 +155,11 @@ tallies-possible l e =
     both ((not (l .opened) || not (illegal (l .settings))) && leb (held l) (l .settings .cap) && (l .grouped || eqb (l .octets) 0) && (l .opened || not (l .grouped)) && ltb (l .last) counts)
     (talliesPossible l) e .1
 
-pub closes : Closes
+pub closes-if-fine : ClosesIfFine ours
 unfolding reply closing closingRefusal
-closes start calls i out open′ fits =
-    let x : Intake = run (begun start) calls in
+closes-if-fine start calls i out open′ fits =
+    let x : Handed = run ours (begun start) calls in
     let k = reached-sound start calls in
+    let opened′ : laneAt (x .state) i .opened ≡ true = ap (λ (l : Lane). l .opened) (lane-is start calls i) ∙ open′ in
     rw (run-size (begun start) calls ∙ start .whole)
-    (simp (not-unsound (x .state) k, open′, le-ltb (length out) recordSize fits, tallies-possible (laneAt (x .state) i) (lane-fine (x .state) k i)))
+    (simp (not-unsound (x .state) k, opened′, le-ltb (length out) recordSize fits, tallies-possible (laneAt (x .state) i) (lane-fine (x .state) k i)))

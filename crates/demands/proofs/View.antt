@@ -25,46 +25,22 @@ use Rattle.state.specs.State.{laneAt}
 use Rattle.intake.specs.Calls.{openedWith, openingRefusal, closingRefusal, settle, packetStep}
 use Rattle.intake.specs.After.{opening, closing, marksAfter, poolAfter, outAfter, groupOf, userOf, answerOf, answered, taking, takingPool, takingOut}
 use Rattle.intake.proofs.Taken.{same-state}
-use Rattle.demands.specs.Runs.{Intake, Call, opens, takes, closes, toPacket, reply, after, run, laneOf}
-use Rattle.demands.specs.Groups.{groupIn, Leaves}
-use Rattle.demands.proofs.Sound.{Sound, not-unsound}
-use Rattle.demands.proofs.Steps.{Stepped, refuses, repeats, strays, ends, holds, stepped}
-use Rattle.demands.proofs.Calls.{after-shaped, opened-at, closed-small}
-use Rattle.demands.proofs.Groups.{opening-leaves, closing-leaves, taking-leaves, held-gathered, pool-length}
-
-pub record Slot : Type 0 where
-  pub lane : Lane
-  pub group : List ℕ
+use Rattle.rule.proofs.Slots.{Slot, without, outFrom, slotAfter}
+use Rattle.demands.specs.Runs.{ours, Handed, Call, opens, takes, closes, toPacket, reply, after, run, laneOf}
+use Rattle.calls.specs.Groups.{groupIn, Leaves}
+use Rattle.calls.proofs.Sound.{Sound, not-unsound}
+use Rattle.calls.proofs.Steps.{Stepped, refuses, repeats, strays, ends, holds, stepped}
+use Rattle.calls.proofs.Calls.{opened-at, closed-small}
+use Rattle.demands.proofs.Reached.{after-shaped}
+use Rattle.calls.proofs.Groups.{opening-leaves, closing-leaves, taking-leaves, held-gathered, pool-length}
 
 abbrev pub slotAt : State → List ℕ → ℕ → Slot
 slotAt s pool i = record { lane = laneAt s i; group = groupIn s pool i }
 
-abbrev pub slotIn : Intake → ℕ → Slot
+abbrev pub slotIn : Handed → ℕ → Slot
 slotIn x i = slotAt (x .state) (x .pool) i
 
--- a lane without a group
-abbrev pub without : Lane → Slot
-without l = record { lane = l; group = [] }
-
--- ---- a packet's step, of the group and the user data
-abbrev pub groupAfter : List ℕ → List ℕ → Step → List ℕ
-groupAfter g u (Refuse n) = g
-groupAfter g u Repeat = g
-groupAfter g u (Stray a) = []
-groupAfter g u (Hold a on n) = cond on g [] ++ u
-groupAfter g u (Unit a on n) = []
-
-abbrev pub outFrom : List ℕ → List ℕ → Step → List ℕ → List ℕ
-outFrom g u (Refuse n) out = out
-outFrom g u Repeat out = out
-outFrom g u (Stray a) out = out
-outFrom g u (Hold a on n) out = out
-outFrom g u (Unit a on n) out = put out 0 (cond on g [] ++ u)
-
-abbrev pub slotAfter : Slot → List ℕ → Step → Slot
-slotAfter v p d = record { lane = laneAfter (v .lane) d; group = groupAfter (v .group) (userData (v .lane .settings) p) d }
-
-abbrev pub stepFor : Intake → ℕ → List ℕ → List ℕ → Step
+abbrev pub stepFor : Handed → ℕ → List ℕ → List ℕ → Step
 stepFor x i p out = packetStep (x .state) i p (length (x .pool)) (length out)
 
 -- ---- a lane that was put in its place
@@ -111,23 +87,23 @@ unless-slot refusal i new old pool v h = chosen (eqb refusal 0) (λ e. h (eqb-tr
     chosen false f = refl
 
 -- ---- the calls
-pub after-size : (x : Intake) (c : Call) → length (after x c .pool) ≡ length (x .pool)
+pub after-size : (x : Handed) (c : Call) → length (after x c .pool) ≡ length (x .pool)
 unfolding after
 after-size x (opens i settings) = refl
 after-size x (takes i p out) = pool-length (x .state) i p (length out) (x .pool)
 after-size x (closes i out) = refl
 
-pub run-size : (x : Intake) (calls : List Call) → length (run x calls .pool) ≡ length (x .pool)
+pub run-size : (x : Handed) (calls : List Call) → length (run ours x calls .pool) ≡ length (x .pool)
 unfolding run
 run-size x [] = refl
 run-size x (c ∷ calls) = run-size (after x c) calls ∙ after-size x c
 
-pub took-reply : (x : Intake) (i : ℕ) (p out : List ℕ)
+pub took-reply : (x : Handed) (i : ℕ) (p out : List ℕ)
     → reply x (takes i p out) ≡ toPacket (answerOf (stepFor x i p out)) (outFrom (slotIn x i .group) (userData (slotIn x i .lane .settings) p) (stepFor x i p out) out)
 unfolding reply taking takingOut
 took-reply x i p out = ap (toPacket (answerOf (stepFor x i p out))) (out-same (x .state) i (userOf (x .state) i p) (x .pool) out (stepFor x i p out))
 
-module _ (x : Intake) (k : Sound (x .state)) (size : length (x .pool) ≡ 16384) where
+module _ (x : Handed) (k : Sound (x .state)) (size : length (x .pool) ≡ 16384) where
   module _ (i : ℕ) where
     -- what is done is settled beside the others
     pub settled : (p out : List ℕ) → stepFor x i p out ≡ settle (x .state .lanes) i (packetPlan (laneAt (x .state) i) p (length out))
@@ -154,7 +130,7 @@ module _ (x : Intake) (k : Sound (x .state)) (size : length (x .pool) ≡ 16384)
   none-there : (s : State) → length (s .lanes) ≡ 8 → (j : ℕ) → (j < 8 → ⊥) → laneAt s j ≡ closed
   none-there s eight j big = List·getD-eq-default (s .lanes) closed {n = j} (omega (arith, eight, big))
 
-  left : (j : ℕ) (later : Intake) → Leaves j (x .state) (x .pool) (later .state) (later .pool) → slotIn later j ≡ slotIn x j
+  left : (j : ℕ) (later : Handed) → Leaves j (x .state) (x .pool) (later .state) (later .pool) → slotIn later j ≡ slotIn x j
   left j later l = ap₂ (λ (a : Lane) (g : List ℕ). record { lane = a; group = g }) (l .lane) (l .group)
 
   other-small : (c : Call) (j : ℕ) → (laneOf c ≡ j → ⊥) → j < 8 → slotIn (after x c) j ≡ slotIn x j
@@ -163,7 +139,7 @@ module _ (x : Intake) (k : Sound (x .state)) (size : length (x .pool) ≡ 16384)
   other-small (takes i p out) j other small = left j (after x (takes i p out)) (taking-leaves (x .state) k i j other small (x .pool) p (length out))
   other-small (closes i out) j other small = left j (after x (closes i out)) (closing-leaves (x .state) k i j other small (x .pool) (length (x .pool)) (length out))
 
-  empty-slot : (y : Intake) → length (y .state .lanes) ≡ 8 → (j : ℕ) → (j < 8 → ⊥) → slotIn y j ≡ without closed
+  empty-slot : (y : Handed) → length (y .state .lanes) ≡ 8 → (j : ℕ) → (j < 8 → ⊥) → slotIn y j ≡ without closed
   unfolding gathered
   empty-slot y eight j big = rw (none-there (y .state) eight j big)
 

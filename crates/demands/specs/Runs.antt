@@ -1,25 +1,24 @@
--- Any run of openings, packets and closings, with state and pool handed back as the last call left them. What a call replies and leaves is what the
--- `ensures` of intake::open_lane, take_packet and close_lane say, for every input; so this is how the code runs.
+-- Any run of openings, packets and closings, by any intake, with state and pool handed back as the last call left them.
 use Prim.Native.Nat.{ℕ}
 use mathlib.Core.Path.{_≡_}
-use mathlib.Core.Bool.{Bool, cond}
+use mathlib.Core.Bool.{Bool, cond, not}
 use mathlib.Core.List.{List, [], _∷_}
-use lib.ListN.{length, replicate, length-replicate}
+use lib.ListN.{length}
 use lib.Dec.{eqb}
-use Rattle.marks.specs.Blocks.{blocks}
+use Rattle.octets.specs.Output.{leading}
+use Rattle.reading.specs.Reading.{reading, content}
+use Rattle.record.specs.Reading.{recordReading, fileReading}
 use Rattle.pool.specs.Octets.{poolOctets}
 use Rattle.lane.specs.declared.Settings.{Settings}
 use Rattle.state.specs.declared.State.{State}
-use Rattle.intake.specs.declared.Answer.{Answer}
 use Rattle.state.specs.State.{freshState}
+use Rattle.intake.specs.declared.Answer.{Answer}
 use Rattle.intake.specs.After.{opening, closing, closingOut, taking, takingPool, takingOut}
-
--- a state has eight lanes and 64 marks, as the lengths of its arrays say
-abbrev pub Shaped : State → Type 0
-Shaped s = (length (s .lanes) ≡ 8) × (length (s .marks) ≡ blocks)
+use Rattle.intake.specs.Told.{told}
+use Rattle.entries.specs.Entries.{SpacePacket, EncapsulationPacket, RecordGiven, writeSpace, writeEncapsulation, writeRecord}
 
 -- ---- what is handed from call to call
-pub record Intake : Type 0 where
+pub record Handed : Type 0 where
   pub state : State
   pub pool : List ℕ
 
@@ -28,12 +27,8 @@ pub record Start : Type 0 where
   pub pool : List ℕ
   pub whole : length pool ≡ poolOctets
 
-abbrev pub begun : Start → Intake
+abbrev pub begun : Start → Handed
 begun start = record { state = freshState; pool = start .pool }
-
--- one with a pool that is filled with one octet
-abbrev pub filled : ℕ → Start
-filled octet = record { pool = replicate poolOctets octet; whole = length-replicate poolOctets octet }
 
 -- ---- a call names a lane by any number; a packet and a closing come with an output
 pub data Call : Type 0 where
@@ -47,36 +42,66 @@ pub data Reply : Type 0 where
   toPacket : (answer : Answer) (out : List ℕ) → Reply
   toClosing : (refusal : ℕ) (out : List ℕ) → Reply
 
-unfoldable pub reply : Intake → Call → Reply
+-- the number of the refusal in it, and 0 for none
+abbrev pub numberIn : Reply → ℕ
+numberIn (toOpening refusal) = refusal
+numberIn (toPacket answer out) = leading (told answer)
+numberIn (toClosing refusal out) = refusal
+
+abbrev pub isRefused : Reply → Bool
+isRefused r = not (eqb (numberIn r) 0)
+
+-- ---- what a writer tells, and its output after it
+pub record Wrote : Type 0 where
+  pub tells : List ℕ
+  pub out : List ℕ
+
+-- an intake is whatever tells something of octets that it reads, hands back a part of them, writes, replies to calls, and leaves a state and a pool
+pub record AnyIntake : Type 0 where
+  pub reads : List ℕ → List ℕ
+  pub hands : List ℕ → List ℕ
+  pub writesSpace : SpacePacket → Wrote
+  pub writesEncapsulation : EncapsulationPacket → Wrote
+  pub readsRecord : List ℕ → List ℕ
+  pub readsFile : List ℕ → List ℕ
+  pub writesRecord : RecordGiven → Wrote
+  pub replies-to : Handed → Call → Reply
+  pub leaves : Handed → Call → Handed
+
+-- ours: what the promises say is told and left, to which the code is tied by demand 1 (`Demand1`, and `RunsAreTheCodes` for the calls)
+abbrev pub spaceWrote : SpacePacket → Wrote
+spaceWrote g = record { tells = writeSpace .tells g; out = writeSpace .leaves g }
+
+abbrev pub encapsulationWrote : EncapsulationPacket → Wrote
+encapsulationWrote g = record { tells = writeEncapsulation .tells g; out = writeEncapsulation .leaves g }
+
+abbrev pub recordWrote : RecordGiven → Wrote
+recordWrote g = record { tells = writeRecord .tells g; out = writeRecord .leaves g }
+
+unfoldable pub reply : Handed → Call → Reply
 reply x (opens i settings) = toOpening (opening (x .state) i settings (length (x .pool)) .refusal)
 reply x (takes i packet out) =
     toPacket (taking (x .state) i packet (length (x .pool)) (length out) .answer) (takingOut (x .state) i packet (x .pool) out)
 reply x (closes i out) = toClosing (closing (x .state) i (length (x .pool)) (length out) .refusal) (closingOut (x .state) i (length (x .pool)) out)
 
-unfoldable pub after : Intake → Call → Intake
+unfoldable pub after : Handed → Call → Handed
 after x (opens i settings) = record { state = opening (x .state) i settings (length (x .pool)) .state; pool = x .pool }
 after x (takes i packet out) =
     record { state = taking (x .state) i packet (length (x .pool)) (length out) .state; pool = takingPool (x .state) i packet (length out) (x .pool) }
 after x (closes i out) = record { state = closing (x .state) i (length (x .pool)) (length out) .state; pool = x .pool }
 
--- ---- a run
-unfoldable pub run : Intake → List Call → Intake
-run x [] = x
-run x (c ∷ calls) = run (after x c) calls
+abbrev pub ours : AnyIntake
+ours =
+    record { reads = reading; hands = content; writesSpace = spaceWrote; writesEncapsulation = encapsulationWrote; readsRecord = recordReading; readsFile = fileReading; writesRecord = recordWrote; replies-to = reply; leaves = after }
 
-unfoldable pub replies : Intake → List Call → List Reply
-replies x [] = []
-replies x (c ∷ calls) = reply x c ∷ replies (after x c) calls
+-- ---- a run of calls: what it leaves, and what is replied
+unfoldable pub run : AnyIntake → Handed → List Call → Handed
+run n x [] = x
+run n x (c ∷ calls) = run n (n .leaves x c) calls
 
--- from a fresh start: the state that is reached; what one more call is replied, and the state after it
-abbrev pub reached : Start → List Call → State
-reached start calls = run (begun start) calls .state
-
-abbrev pub replied : Start → List Call → Call → Reply
-replied start calls c = reply (run (begun start) calls) c
-
-abbrev pub next : Start → List Call → Call → State
-next start calls c = after (run (begun start) calls) c .state
+unfoldable pub replies : AnyIntake → Handed → List Call → List Reply
+replies n x [] = []
+replies n x (c ∷ calls) = n .replies-to x c ∷ replies n (n .leaves x c) calls
 
 -- ---- A source is a lane number; its own calls are all those that name it, in order
 abbrev pub laneOf : Call → ℕ
@@ -92,6 +117,6 @@ own i [] = []
 own i (c ∷ calls) = cond (names i c) (c ∷ own i calls) (own i calls)
 
 -- what a source is replied in a run
-unfoldable pub repliesTo : ℕ → Intake → List Call → List Reply
-repliesTo i x [] = []
-repliesTo i x (c ∷ calls) = cond (names i c) (reply x c ∷ repliesTo i (after x c) calls) (repliesTo i (after x c) calls)
+unfoldable pub repliesTo : AnyIntake → ℕ → Handed → List Call → List Reply
+repliesTo n i x [] = []
+repliesTo n i x (c ∷ calls) = cond (names i c) (n .replies-to x c ∷ repliesTo n i (n .leaves x c) calls) (repliesTo n i (n .leaves x c) calls)

@@ -22,27 +22,33 @@ abbrev pub openedWith : Settings → Lane
 openedWith settings =
     record { opened = true; settings = settings; units = 0; packets = 0; missing = 0; broken = 0; last = 0; grouped = false; octets = 0 }
 
--- Opening: 24, 11, 21, 22, 23; size is that of the lent pool
-abbrev pub openingTests : State → ℕ → Settings → ℕ → List (Test (List ℕ))
-openingTests s i settings size =
-    (unsound s size gives (24 ∷ []))
-    ∷ (ltb 7 i gives (11 ∷ []))
-    ∷ (laneAt s i .opened gives (21 ∷ []))
+-- Opening, after 24: 11, 21, 22, 23, judged on the lanes
+abbrev pub openingCauses : List Lane → ℕ → Settings → List (Test (List ℕ))
+openingCauses lanes i settings =
+    (ltb 7 i gives (11 ∷ []))
+    ∷ (getD lanes i closed .opened gives (21 ∷ []))
     ∷ (illegal settings gives (22 ∷ []))
-    ∷ (not (within (set (s .lanes) i (openedWith settings))) gives (23 ∷ []))
+    ∷ (not (within (set lanes i (openedWith settings))) gives (23 ∷ []))
     ∷ []
+
+-- Opening: 24, then these; size is that of the lent pool
+abbrev pub openingTests : State → ℕ → Settings → ℕ → List (Test (List ℕ))
+openingTests s i settings size = (unsound s size gives (24 ∷ [])) ∷ openingCauses (s .lanes) i settings
 
 unfoldable pub openingRefusal : State → ℕ → Settings → ℕ → ℕ
 openingRefusal s i settings size = first 0 (numbersOf (openingTests s i settings size))
 
--- Closing: 24, 11, 9, 25; room is the output's
-abbrev pub closingTests : State → ℕ → ℕ → ℕ → List (Test (List ℕ))
-closingTests s i size room =
-    (unsound s size gives (24 ∷ []))
-    ∷ (not (laneAt s i .opened) gives (11 ∷ []))
+-- Closing, after 24: 11, 9, 25; room is the output's
+abbrev pub closingCauses : List Lane → ℕ → ℕ → List (Test (List ℕ))
+closingCauses lanes i room =
+    (not (getD lanes i closed .opened) gives (11 ∷ []))
     ∷ (ltb room recordSize gives (9 ∷ []))
-    ∷ (not (talliesPossible (laneAt s i)) gives (25 ∷ []))
+    ∷ (not (talliesPossible (getD lanes i closed)) gives (25 ∷ []))
     ∷ []
+
+-- Closing: 24, then these
+abbrev pub closingTests : State → ℕ → ℕ → ℕ → List (Test (List ℕ))
+closingTests s i size room = (unsound s size gives (24 ∷ [])) ∷ closingCauses (s .lanes) i room
 
 unfoldable pub closingRefusal : State → ℕ → ℕ → ℕ → ℕ
 closingRefusal s i size room = first 0 (numbersOf (closingTests s i size room))

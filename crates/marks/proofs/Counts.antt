@@ -62,20 +62,24 @@ freed-count-other i j (o ∷ os) h other =
     (λ d. rw (freed-other i o d) (omega arith))
 
 -- ---- one block gets another mark
-count-set : (p : ℕ → Bool) (marks : List ℕ) (b v : ℕ) → b < length marks → count p (set marks b v) + one (p (getD marks b 0)) ≡ count p marks + one (p v)
+pub count-set : (p : ℕ → Bool) (marks : List ℕ) (b v : ℕ) → b < length marks → count p (set marks b v) + one (p (getD marks b 0)) ≡ count p marks + one (p v)
 unfolding count
 count-set p [] b v h = absurd (omega arith)
 count-set p (o ∷ os) zero v h = omega arith
 count-set p (o ∷ os) (suc b) v h = omega (arith, count-set p os b v (omega arith))
 
+-- a mark that is counted is found
+pub counted-found : (marks : List ℕ) (m : ℕ) → 0 < count (λ o. eqb o m) marks → find marks m < length marks
+unfolding count
+counted-found [] m h = absurd (omega arith)
+counted-found (o ∷ os) m h =
+    by-case o m
+    (λ e. omega (arith, at-front o os m e))
+    (λ d. omega (arith, past-front o os m d, counted-found os m (omega (arith, counts-none o m d))))
+
 -- where a block is free, one is found
 pub free-found : (marks : List ℕ) → 0 < count isFree marks → find marks free < length marks
-unfolding count
-free-found [] h = absurd (omega arith)
-free-found (o ∷ os) h =
-    by-case o free
-    (λ e. omega (arith, at-front o os free e))
-    (λ d. omega (arith, past-front o os free d, free-found os (omega (arith, counts-none o free d))))
+free-found marks = counted-found marks free
 
 -- ---- a free block gets the mark v
 module _ (marks : List ℕ) (v : ℕ) (some : 0 < count isFree marks) where

@@ -7,3 +7,4 @@ pub mod Counts
 pub mod Sums
 pub mod Matched
 pub mod Lowest
+pub mod Once

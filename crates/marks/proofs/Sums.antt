@@ -23,21 +23,22 @@ unfolding count
 sums-within p q r h [] = omega arith
 sums-within p q r h (o ∷ os) = omega (arith, h o, sums-within p q r h os)
 
-within-sums : (p q r : ℕ → Bool) → ((o : ℕ) → one (p o) ≤ one (q o) + one (r o)) → (marks : List ℕ) → count p marks ≤ count q marks + count r marks
+pub within-sums : (p q r : ℕ → Bool) (marks : List ℕ)
+    → ((b : ℕ) → b < length marks → one (p (getD marks b 0)) ≤ one (q (getD marks b 0)) + one (r (getD marks b 0))) → count p marks ≤ count q marks + count r marks
 unfolding count
-within-sums p q r h [] = omega arith
-within-sums p q r h (o ∷ os) = omega (arith, h o, within-sums p q r h os)
+within-sums p q r [] h = omega arith
+within-sums p q r (o ∷ os) h = omega (arith, h 0 (omega arith), within-sums p q r os (λ b l. h (suc b) (omega arith)))
 
-one-below : (a b : ℕ) → a < b → one (ltb a b) ≡ 1
+pub one-below : (a b : ℕ) → a < b → one (ltb a b) ≡ 1
 unfolding one
 one-below a b h = simp (lt-ltb a b h)
 
-none-below : (a b : ℕ) → b ≤ a → one (ltb a b) ≡ 0
+pub none-below : (a b : ℕ) → b ≤ a → one (ltb a b) ≡ 0
 unfolding one
 none-below a b h = simp (le-ltb a b h)
 
 -- marks below m, and the mark m: those below m + 1; so places with blocks are no more than the marks there
-abbrev below : ℕ → ℕ → Bool
+abbrev pub below : ℕ → ℕ → Bool
 below m o = ltb o m
 
 next-mark : (m o : ℕ) → one (eqb o m) + one (below m o) ≤ one (below (m + 1) o)
@@ -85,7 +86,7 @@ places-within marks i n h places =
     omega (
       arith,
       places-counted marks (i * blocks) n places,
-      within-sums (below (i * blocks + n)) (isOf i) (below (i * blocks)) (λ o. lane-between i n o h) marks,
+      within-sums (below (i * blocks + n)) (isOf i) (below (i * blocks)) marks (λ b l. lane-between i n (getD marks b 0) h),
     )
 
 -- ---- the blocks of lanes i, i + 1, .., n of them

@@ -1,3 +1,4 @@
 pub mod Turns
 pub mod Soundness
 pub mod Within
+pub mod Clauses

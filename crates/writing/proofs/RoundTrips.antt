@@ -36,7 +36,7 @@ pub encap-read : (p u x room : ℕ) (given rest : List ℕ) → encapRefusal p u
 encap-read p u x room given rest e = read-back p u x room given e rest
 
 -- a part of some octets is octets
-small-part : (s : List ℕ) → AreOctets s → (from n : ℕ) → AreOctets (take n (drop from s))
+pub small-part : (s : List ℕ) → AreOctets s → (from n : ℕ) → AreOctets (take n (drop from s))
 small-part s small from n k =
     either (ltb k n)
     (λ t. let e = getD-take n (drop from s) k 0 (ltb-true _ _ t) ∙ getD-drop from s k 0 in omega (arith, e, small (from + k)))

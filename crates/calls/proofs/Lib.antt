@@ -1,0 +1,9 @@
+pub mod Lanes
+pub mod Sound
+pub mod Marks
+pub mod Blocks
+pub mod Steps
+pub mod Order
+pub mod Calls
+pub mod Groups
+pub mod Laws

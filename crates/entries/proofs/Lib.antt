@@ -1,0 +1,10 @@
+pub mod Plain
+pub mod Refusals
+pub mod EachEntry
+pub mod LaneEntries
+pub mod Asked
+pub mod Promised
+pub mod OneAnswer
+pub mod Honours
+pub mod Ends
+pub mod Demand1

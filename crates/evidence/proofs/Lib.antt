@@ -1,0 +1,4 @@
+pub mod Computed
+pub mod Starred
+pub mod Examples
+pub mod ShutOut
