@@ -189,10 +189,10 @@ shut-out = record {
   makes-up-credit = makes-up-credit;
 }
 
--- ---- each of them can be written: ours with other replies, or other things left
-abbrev calling : (Handed → Call → Reply) → (Handed → Call → Handed) → AnyIntake
-calling replies′ leaves′ = record {
-  reads = ours .reads;
+-- ---- each of them can be written: ours with another reader, other replies, or other things left
+abbrev varied : (List ℕ → List ℕ) → (Handed → Call → Reply) → (Handed → Call → Handed) → AnyIntake
+varied reads′ replies′ leaves′ = record {
+  reads = reads′;
   hands = ours .hands;
   writesSpace = ours .writesSpace;
   writesEncapsulation = ours .writesEncapsulation;
@@ -203,19 +203,8 @@ calling replies′ leaves′ = record {
   leaves = leaves′;
 }
 
--- ours with a reader that tells nothing
-abbrev unreading : AnyIntake
-unreading = record {
-  reads = λ s. [];
-  hands = ours .hands;
-  writesSpace = ours .writesSpace;
-  writesEncapsulation = ours .writesEncapsulation;
-  readsRecord = ours .readsRecord;
-  readsFile = ours .readsFile;
-  writesRecord = ours .writesRecord;
-  replies-to = reply;
-  leaves = after;
-}
+abbrev calling : (Handed → Call → Reply) → (Handed → Call → Handed) → AnyIntake
+calling = varied (ours .reads)
 
 -- one answer to every packet, and else the promised replies
 saying : Answer → Handed → Call → Reply
@@ -289,7 +278,7 @@ can-be-written = record {
   refuses-everything = (says (Refused 19), λ start calls i packet out. refl);
   refuses-all-but-the-first = (refuses, λ start calls i packet out some. simp (ne-eqb (laneAt (run refuses (begun start) calls .state) i .packets) 0 (λ z. omega arith)));
   answers-constantly = (says (Held 0 false), λ start calls i packet other out. refl);
-  reads-constantly = (unreading, λ s other. refl);
+  reads-constantly = (varied (λ s. []) reply after, λ s other. refl);
   stores-nothing = (forgets, λ start calls c. refl);
   only-nods = (nods, λ start calls i packet out some. simp (ne-eqb (laneAt (run nods (begun start) calls .state) i .packets) 0 (λ z. omega arith)));
   makes-up-missing = (says (Stray 1 false), missing-made-up);
