@@ -478,8 +478,10 @@ static inline struct told hold(struct branmuslin_state *state, size_t lane, cons
 {
     struct branmuslin_lane *l = &state->lanes[lane];
     const uint32_t octets = part->start + part->length, blocks = blocks_for(octets), others = view->total - need_of(l);
-    if (blocks > l->settings.cap || larger(blocks, l->settings.share) + others > BRANMUSLIN_BLOCKS)
-        return refused(BRANMUSLIN_NO_BLOCKS);
+    if (blocks > l->settings.cap)
+        return refused(BRANMUSLIN_OVER_CAP);
+    if (larger(blocks, l->settings.share) + others > BRANMUSLIN_BLOCKS)
+        return refused(BRANMUSLIN_OTHERS_IN_THE_WAY);
     const struct told told = count_in(state, lane, part, BRANMUSLIN_HELD);
     store(state->marks, lane, view, part, pool);
     l->grouped = true;

@@ -69,9 +69,11 @@ static const char *const causes[] = {
     [BRANMUSLIN_FLAG_DIFFERS] = "the secondary header flag is set and the lane's secondary length is 0, or clear and it isn't",
     [BRANMUSLIN_UNDER_SECONDARY] = "the data field is shorter than the secondary length",
     [BRANMUSLIN_LANE_FULL] = "the lane has taken 262,144 packets",
-    [BRANMUSLIN_NO_BLOCKS] = "no room: the group would exceed the lane's cap, or what it and the other lanes hold or are promised would exceed 64 blocks",
+    [BRANMUSLIN_OVER_CAP] = "no room: the group would exceed the lane's own cap; sending the packet again can't help",
     [BRANMUSLIN_BAD_SETTINGS] = "the APID is over 2046, the secondary length over 63, the share over the cap, or the cap over 64",
     [BRANMUSLIN_NOT_PROMISED] = "the share can't be promised",
+    [BRANMUSLIN_OTHERS_IN_THE_WAY] = "no room: what the group and the other lanes hold or are promised would exceed 64 blocks; the other lanes are in "
+                                     "the way, and the packet may fit later",
 };
 
 static const char *cause(uint8_t refusal)

@@ -29,7 +29,7 @@
 extern "C" {
 #endif
 
-#define BRANMUSLIN_RELEASE "0.1.0"
+#define BRANMUSLIN_RELEASE "0.2.0"
 
 /* The compiler warns of a null that it sees. */
 #ifdef __GNUC__
@@ -60,15 +60,16 @@ enum {
     BRANMUSLIN_FLAG_DIFFERS = 16,  /* the secondary header flag is set and the lane's secondary length is 0, or clear and it isn't */
     BRANMUSLIN_UNDER_SECONDARY = 17, /* the data field is shorter than the secondary length */
     BRANMUSLIN_LANE_FULL = 18,     /* the lane has taken 262,144 packets */
-    BRANMUSLIN_NO_BLOCKS = 19,     /* no room in the pool: the group would exceed the lane's cap, or what it and the other lanes hold or are
-                                      promised would exceed 64 blocks */
+    BRANMUSLIN_OVER_CAP = 19,      /* no room in the pool: the group would exceed the lane's own cap; sending the packet again can't help */
     BRANMUSLIN_UNIT_TOO_LONG = 20, /* the output is shorter than the finished unit */
     BRANMUSLIN_ALREADY_OPEN = 21,  /* the lane is already open */
     BRANMUSLIN_BAD_SETTINGS = 22,  /* apid over 2046, secondary over 63, share over cap, or cap over 64 */
     BRANMUSLIN_NOT_PROMISED = 23,  /* the share can't be promised */
     BRANMUSLIN_NOT_SOUND = 24,     /* the state is not sound, or the pool does not have 16,384 octets */
     BRANMUSLIN_NOT_POSSIBLE = 25,  /* the record is not possible */
-    BRANMUSLIN_NOT_RECORDS = 26    /* a record file that is not a multiple of 20 octets, or a single record that is not 20 */
+    BRANMUSLIN_NOT_RECORDS = 26,   /* a record file that is not a multiple of 20 octets, or a single record that is not 20 */
+    BRANMUSLIN_OTHERS_IN_THE_WAY = 27 /* no room in the pool: the group is within the lane's cap, but what it and the other lanes hold or are promised
+                                         would exceed 64 blocks; the other lanes are in the way, and the packet may fit later */
 };
 
 /* The version of either kind of packet, the sequence flags of a Space Packet, and the APID of idle ones. */
@@ -298,8 +299,10 @@ struct branmuslin_change branmuslin_open_lane(struct branmuslin_state state, siz
  * Gives a lane one packet: all of the octets. A packet that begins a group or adds to it is held in the pool; a last one ends the unit, which is written
  * at the front of the output, as is an unsegmented one. Octets of the output after the unit stay as they were, and so does all of it for other answers.
  *
- * Refusals, in this order: 24, 11, those of branmuslin_read_packet, 12 to 17, (here a repeat is answered,) 18, 19, 20. A packet that is refused counts as
- * not received: it may be given again, for instance with a longer output.
+ * Refusals, in this order: 24, 11, those of branmuslin_read_packet, 12 to 17, (here a repeat is answered,) 18, 19, 27, 20. A packet that is refused counts as
+ * not received: it may be given again, for instance with a longer output, or, after 27, when the other lanes hold less or are closed; but before the lane's
+ * next packet, since after that one its count would look like a gap. After 19 it is refused so again as long as the lane is as it is, whatever the others do;
+ * a lane that is alone in the pool never gets 27, and one that would stay within its share gets neither.
  */
 struct branmuslin_answer branmuslin_take_packet(struct branmuslin_state state, size_t lane, const uint8_t *packet, size_t packet_length, uint8_t *pool,
                                                 size_t pool_length, uint8_t *output, size_t output_length) BRANMUSLIN_NOT_NULL;

@@ -63,7 +63,7 @@ takes_in_turn() {
     local block
     block=$(printf '\\xAA%.0s' {1..256})
     upload a '\x00\x2A\x40\x00\x00\xFF'"$block"'\x00\x2A\x80\x01\x00\x00\x11\xE0\xE0' && upload b '\x00\x2A\x40\x00\x00\xFF'"$block"'\x00\x2A\x40\x01\x00\xFF'"$block" &&
-        intake_prints "1 0 refused 19 $(cause_of 19)
+        intake_prints "1 0 refused 27 $(cause_of 27)
 0 269 refused 13 $(cause_of 13)
 0 270 refused 13 $(cause_of 13)
 0 units 1 packets 2 missing 0 broken 0 repeats 0 refused 2
@@ -110,6 +110,19 @@ units 0 packets 0 missing 0 broken 0 repeats 0 refused 1
 " "7:42:2:0:1:$uploads/a"
 }
 
+# The same packet of two blocks: the first lane's own cap is 1; in the second one's way is only what the third is promised.
+says_whose_fault() {
+    upload a '\x00\x2A\x40\x00\x01\x00'"$(printf '\\xAA%.0s' {1..257})" && intake_prints "0 0 refused 19 $(cause_of 19)
+1 0 refused 27 $(cause_of 27)
+0 units 0 packets 0 missing 0 broken 0 repeats 0 refused 1
+1 units 0 packets 0 missing 0 broken 0 repeats 0 refused 1
+2 units 0 packets 0 missing 0 broken 0 repeats 0 refused 0
+" "7:42:0:0:1:$uploads/a" "8:42:0:0:2:$uploads/a" 9:0:0:63:63:/dev/null && intake_prints "0 0 refused 19 $(cause_of 19)
+0 units 0 packets 0 missing 0 broken 0 repeats 0 refused 1
+1 units 0 packets 1 missing 0 broken 1 repeats 0 refused 0
+" "7:42:0:0:1:$uploads/a" "8:42:0:0:2:$uploads/a"
+}
+
 # Settings that fit their types are the library's to judge. A lane that isn't opened has no record.
 says_not_opened() {
     local settings
@@ -148,7 +161,7 @@ credits_alike() {
         credited_alike "$seed" || { echo "seed $seed" && return 1; }
     done
     # Something of every kind was met.
-    for number in {1..7} {13..17} 19 22 23; do
+    for number in {1..7} {13..17} 19 22 23 27; do
         grep -q " refused $number " "$work/all-lanes" || { echo "refusal $number was not met" && return 1; }
     done
     grep -qE ' units [1-9][0-9]* packets [1-9][0-9]* missing [1-9][0-9]* broken [1-9][0-9]* repeats [1-9]' "$work/all-lanes"
@@ -224,6 +237,7 @@ check 'intake: a packet of each upload in turn' takes_in_turn
 check 'intake: repeats, gaps, strays and an open group' counts
 check 'intake: octets that are no packet, in words' says_no_packet
 check 'intake: packets that a lane refuses, in words' says_not_taken
+check "intake: whose fault no room is, the lane's own or the others', in words" says_whose_fault
 check 'intake: lanes that are not opened, in words' says_not_opened
 check 'intake: more packets than a lane takes' full_lane
 check 'intake: generated uploads are credited as by the second program' credits_alike

@@ -256,7 +256,7 @@ static void eight_lanes(void)
             answered(HERE, lane, turn, packet(42, turn == 0 ? FIRST : CONTINUATION, turn, 0, user), HELD(0, false));
         }
     for (unsigned lane = 0; lane < 8; lane++)
-        takes(HERE, lane, packet(42, CONTINUATION, 8, 0, part(0, 1)), 0, REFUSED(19));
+        takes(HERE, lane, packet(42, CONTINUATION, 8, 0, part(0, 1)), 0, REFUSED(27));
     for (unsigned lane = 8; lane-- > 0;)
         answered(HERE, lane, 8, packet(42, LAST, 8, 0, part(3000 * lane + 2048, 5)), UNIT(0, false, part(3000 * lane, 2053)));
 }
@@ -272,19 +272,24 @@ static void fills(struct place place, size_t lane, unsigned count, unsigned bloc
     answered(place, lane, count, packet(42, FIRST, count, 0, part(0, (size_t)256 * blocks)), HELD(0, count > 0));
 }
 
-/* The paper's two lanes: shares of 20, caps of 40 and 64. Lane 1 may hold 44, not 45, while lane 0 may hold 20, not 21. */
+/*
+ * The paper's two lanes: shares of 20, caps of 40 and 64. Lane 1 may hold 44, not 45, while lane 0 may hold 20, not 21: either is in the other's way. Over
+ * its own cap lane 0 is refused 19, beside lane 1 as without it.
+ */
 static void shares(void)
 {
     start_fresh();
     opened(HERE, 0, SETTINGS(0, 42, 0, 20, 40));
     opened(HERE, 1, SETTINGS(1, 42, 0, 20, 64));
-    takes(HERE, 1, packet(42, FIRST, 0, 0, part(0, 44 * 256 + 1)), 0, REFUSED(19));
+    takes(HERE, 1, packet(42, FIRST, 0, 0, part(0, 44 * 256 + 1)), 0, REFUSED(27));
     fills(HERE, 1, 0, 44, 0);
-    takes(HERE, 0, packet(42, FIRST, 0, 0, part(0, 20 * 256 + 1)), 0, REFUSED(19));
+    takes(HERE, 0, packet(42, FIRST, 0, 0, part(0, 20 * 256 + 1)), 0, REFUSED(27));
+    takes(HERE, 0, packet(42, FIRST, 0, 0, part(0, 40 * 256)), 0, REFUSED(27));
+    takes(HERE, 0, packet(42, FIRST, 0, 0, part(0, 40 * 256 + 1)), 0, REFUSED(19)); /* 19 and 27 */
     fills(HERE, 0, 0, 20, 44);
     opens(HERE, 2, SETTINGS(2, 42, 0, 1, 1), 23);
     opened(HERE, 2, SETTINGS(2, 42, 0, 0, 1));
-    takes(HERE, 2, packet(42, FIRST, 0, 0, part(0, 1)), 0, REFUSED(19));
+    takes(HERE, 2, packet(42, FIRST, 0, 0, part(0, 1)), 0, REFUSED(27));
     want_closed(1);
     closes(HERE, 1, 20, 0, OCTETS(0, 1, 0, 42, 0, 0, 0, 0, 0, 0, 0, 1, 0, 0, 0, 0, 0, 0, 0, 1));
     takes(HERE, 0, packet(42, FIRST, 1, 0, part(0, 40 * 256 + 1)), 0, REFUSED(19));

@@ -86,7 +86,7 @@ static void not_packets(void)
     takes(HERE, 2, OCTETS(0x20), 300, REFUSED(11));
 }
 
-/* The order: 24, 11, reading, 12 to 17, a repeat, 18, 19, 20. */
+/* The order: 24, 11, reading, 12 to 17, a repeat, 18, 19, 27, 20. */
 static void packets(void)
 {
     start();
@@ -118,11 +118,12 @@ static void packets(void)
 static void full_lane(void)
 {
     start();
-    is.state.lanes[0].packets = 262144;
+    is.state.lanes[0].packets = is.state.lanes[1].packets = 262144;
     start_from(is.state);
     takes(HERE, 0, packet(42, LAST, 6, 2, part(10, 1)), 300, REFUSED(18));
     takes(HERE, 0, packet(42, CONTINUATION, 7, 2, part(10, 1)), 300, REFUSED(18));
     takes(HERE, 0, packet(42, FIRST, 6, 2, part(0, 300)), 300, REFUSED(18));        /* 18 and 19 */
+    takes(HERE, 1, packet(43, FIRST, 6, 0, part(0, 16384)), 300, REFUSED(18));      /* 18 and 27 */
     takes(HERE, 0, packet(42, UNSEGMENTED, 6, 2, part(0, 300)), 299, REFUSED(18));  /* 18 and 20 */
     takes(HERE, 0, packet(42, LAST, 5, 2, part(10, 1)), 300, REPEATED);
     takes(HERE, 0, packet(42, LAST, 6, 1, NO_OCTETS), 300, REFUSED(17));            /* 17 and 18 */
@@ -144,12 +145,39 @@ static void no_room(void)
     want_group(0, 256);
     want_stored(0, 10, part(10, 246));
     answered(HERE, 0, 6, packet(42, CONTINUATION, 6, 2, part(10, 246)), HELD(0, false));
-    takes(HERE, 1, packet(43, FIRST, 0, 0, part(0, 63 * 256 + 1)), 300, REFUSED(19));
     for (size_t output = 0; output < 258; output += 257)
         takes(HERE, 0, packet(42, LAST, 7, 2, part(256, 2)), output, REFUSED(20));
     takes(HERE, 0, packet(42, UNSEGMENTED, 7, 2, part(0, 300)), 299, REFUSED(20));
     takes(HERE, 0, packet(42, UNSEGMENTED, 9, 2, part(0, 1)), 0, REFUSED(20));
     answered(HERE, 0, 7, packet(42, LAST, 7, 2, part(256, 2)), UNIT(0, false, part(0, 258)));
+}
+
+/*
+ * Beside lane 0's block lane 1 may hold 63. 27 leaves the old group too, and the very packet that was refused is held once lane 0 is closed, whose block
+ * it then gets. Over the cap it is 19, also where lane 0 is in the way.
+ */
+static void others_in_the_way(void)
+{
+    start();
+    want_group(1, 256);
+    want_block(1, 0, 1);
+    want_stored(1, 0, part(0, 256));
+    answered(HERE, 1, 0, packet(43, FIRST, 0, 0, part(0, 256)), HELD(0, false));
+    takes(HERE, 1, packet(43, FIRST, 1, 0, part(0, 63 * 256 + 1)), 300, REFUSED(27));
+    takes(HERE, 1, packet(43, FIRST, 3, 0, part(0, 63 * 256 + 1)), 300, REFUSED(27));
+    takes(HERE, 1, packet(43, CONTINUATION, 1, 0, part(256, 62 * 256 + 1)), 300, REFUSED(27));
+    takes(HERE, 1, packet(43, FIRST, 1, 0, part(0, 64 * 256 + 1)), 300, REFUSED(19));          /* 19 and 27 */
+    takes(HERE, 1, packet(43, CONTINUATION, 1, 0, part(256, 63 * 256 + 1)), 300, REFUSED(19)); /* 19 and 27 */
+    takes(HERE, 1, packet(43, FIRST, 0, 0, part(0, 63 * 256 + 1)), 0, REPEATED);               /* a repeat, and else 27 */
+    want_closed(0);
+    closes(HERE, 0, 20, 0, OCTETS(0, 7, 0, 42, 0, 0, 0, 0, 0, 0, 0, 1, 0, 0, 0, 0, 0, 0, 0, 1));
+    want_group(1, 63 * 256 + 1);
+    want_block(1, 1, 0);
+    want_stored(0, 0, part(256, 256));
+    for (unsigned block = 2; block < 64; block++)
+        want_block(1, block, block);
+    want_stored(2, 0, part(512, 61 * 256 + 1));
+    answered(HERE, 1, 1, packet(43, CONTINUATION, 1, 0, part(256, 62 * 256 + 1)), HELD(0, false));
 }
 
 /* The order: 24, 11, 9. Tallies that would be 25 are not sound. */
@@ -177,5 +205,6 @@ void test_refused(void)
     packets();
     full_lane();
     no_room();
+    others_in_the_way();
     closings();
 }

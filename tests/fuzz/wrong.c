@@ -138,6 +138,19 @@ WRAPPED(answer, take_packet, state s, size_t lane, const uint8_t *packet, size_t
         spoil(&a, lane, pool, output, output_length);
     if (a.refusal == 19 && wrong("take_packet-gives-up-refused"))
         a.state.lanes[lane].broken++;
+    if (a.refusal == 27 && wrong("take_packet-drops-old-group"))
+        a.state.lanes[lane].grouped = false;
+    if (a.refusal == 27 && wrong("take_packet-19-for-27"))
+        a.refusal = 19;
+    if (a.refusal == 19 && wrong("take_packet-27-for-19"))
+        a.refusal = 27;
+    if (a.refusal == 19 && wrong("take_packet-27-for-both")) {
+        /* Whether the sum is too large as well shows with the largest cap. The packet may be held then, so the pool is another. */
+        uint8_t other[BRANMUSLIN_POOL_LENGTH] = {0};
+        s.lanes[lane].settings.cap = BRANMUSLIN_BLOCKS;
+        if (REAL(take_packet)(s, lane, packet, length, other, sizeof other, output, output_length).refusal == 27)
+            a.refusal = 27;
+    }
     if (a.refusal == 20 && wrong("take_packet-begins-refused-unit"))
         output[0] ^= 1;
     if (a.refusal == 24 && pool_length > 0 && wrong("take_packet-changes-refused-pool"))

@@ -84,7 +84,7 @@ module _ (s : State) (k : Sound s) (i j : ℕ) (other : i ≡ j → ⊥) (small 
   after-leaves : (p : List ℕ) (octets room : ℕ) {d : Step} → Stepped s i p octets room d
       → Leaves j s pool (answered s i d .state) (poolAfter (s .marks) i (laneAt s i) d (userOf s i p) pool)
   unfolding laneAfter marksAfter poolAfter
-  after-leaves p octets room (refuses n h t) = leaves _ (s .marks) pool refl
+  after-leaves p octets room (refuses n) = leaves _ (s .marks) pool refl
   after-leaves p octets room repeats = leaves _ (s .marks) pool refl
   after-leaves p octets room (strays a f) = leaves _ _ pool (released-other s i j (laneAt s j .octets) other small fits pool)
   after-leaves p octets room (ends a on n f e h) = leaves _ _ pool (released-other s i j (laneAt s j .octets) other small fits pool)

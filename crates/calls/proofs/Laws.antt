@@ -2,9 +2,9 @@
 -- the test `sound` finds.
 use Prim.Native.Nat.{ℕ, _+_, _/_, _%_, _≤_, _<_}
 use mathlib.Core.Path.{_≡_, refl, sym, ap, subst, _∙_}
-use mathlib.Core.Bool.{Bool, true}
+use mathlib.Core.Bool.{Bool, true, false}
 use mathlib.Core.List.{List, _++_}
-use mathlib.Core.Logic.{_⊎_}
+use mathlib.Core.Logic.{_⊎_, inl, inr, _↔_}
 use native.Mathlib.Omega.{arith}
 use borrow.Author.Tests.{eq-eqb, ne-eqb}
 use lib.Dec.{eqb}
@@ -12,8 +12,6 @@ use lib.ListN.{length, getD}
 use Rattle.octets.specs.Order.{first, numbersOf}
 use Rattle.octets.specs.Output.{put, outputAfter}
 use Rattle.octets.proofs.Order.{either}
-use Rattle.packet.specs.Space.{flags}
-use Rattle.packet.specs.Space as space
 use Rattle.marks.specs.Blocks.{free, mark, find}
 use Rattle.marks.specs.Matching.{count}
 use Rattle.marks.proofs.Finding.{by-case, never-both}
@@ -22,7 +20,7 @@ use Rattle.lane.specs.declared.Lane.{Lane}
 use Rattle.grouping.specs.declared.Added.{Added}
 use Rattle.grouping.specs.declared.Step.the-variants.{Refuse, Repeat, Stray, Hold, Unit}
 use Rattle.lane.specs.Lane.{held}
-use Rattle.grouping.specs.Grouping.{missingBefore, goesOn}
+use Rattle.grouping.specs.Grouping.{missingBefore}
 use Rattle.grouping.specs.Steps.{laneAfter}
 use Rattle.lane.proofs.Fine.{is-fine, held-most}
 use Rattle.state.specs.declared.State.{State}
@@ -33,12 +31,14 @@ use Rattle.state.proofs.Soundness.{then-sound}
 use Rattle.intake.proofs.Taken.{same-state}
 use Rattle.state.specs.Clauses.{Shaped}
 use Rattle.calls.specs.Groups.{groupIn, Leaves, HeldPlace}
-use Rattle.calls.specs.Order.{refusalOf, wouldHold, packetTests}
+use Rattle.calls.specs.Order.{refusalOf, wouldHold, packetCauses, packetTests}
+use Rattle.calls.specs.Room.{OverCap, OverSum, NoRoom, ToHold}
 use Rattle.calls.proofs.Sound.{Sound, is-sound, sound-is, fresh, lane-fine}
 use Rattle.calls.proofs.Marks.{just-its-blocks, released-free}
 use Rattle.calls.proofs.Blocks.{free-or-held}
-use Rattle.calls.proofs.Steps.{Stepped, strays, ends, stepped, refused-why, pool-then}
-use Rattle.calls.proofs.Order.{ordered, room-in-share}
+use Rattle.calls.proofs.Steps.{Stepped, strays, ends, stepped, pool-then}
+use Rattle.calls.proofs.Order.{ordered}
+use Rattle.calls.proofs.Room.{cap-exactly, sum-exactly, above-share, held-only}
 use Rattle.calls.proofs.Calls.{closed-small, opening-sound, closing-sound, taking-sound}
 use Rattle.calls.proofs.Groups.{opening-leaves, closing-leaves, taking-leaves, held-gathered, unit-fits}
 
@@ -78,18 +78,46 @@ module _ (s : State) (i : ℕ) where
   unfolding closing closingOut outputAfter
   refused-closing-leaves octets out h = simp (ne-eqb _ 0 h) (refl, refl)
 
--- ---- Packet to a lane: 24, 11, reading, 12, 13, 14, 15, 16, 17, the repeat test, 18, 19, 20
+-- ---- Packet to a lane: 24, 11, reading, 12, 13, 14, 15, 16, 17, the repeat test, 18, 19, 27, 20
 pub packet-order : (s : State) → Shaped s → (i : ℕ) (p : List ℕ) (octets room : ℕ) → refusalOf (packetStep s i p octets room) ≡ first 0 (numbersOf (packetTests s i p octets room))
 packet-order s shape i p octets room = ordered s shape i p octets room
 
--- A last or unsegmented packet needs no block: 19 is given only for a packet that begins a group or adds to one
-pub only-held-19 : (s : State) → Shaped s → (i : ℕ) (p : List ℕ) (octets room : ℕ) → packetStep s i p octets room ≡ Refuse 19
-    → (flags p ≡ 1) ⊎ ((flags p ≡ 0) × (goesOn (laneAt s i) (flags p) (space.count p) ≡ true))
-unfolding packetStep
-only-held-19 s shape i p octets room e =
-    either (unsound s octets)
-    (λ u. absurd (let z = simp u at e in let q : _≡_ {A = ℕ} 24 19 = cc in omega arith))
-    (λ u. refused-why s i p octets room 19 (subst (Stepped s i p octets room) e (stepped s (is-sound s shape (then-sound s octets u .0)) i p octets room)) .1 refl)
+-- 19 and 27 each have their cause: the lane's cap, or the sum over the lanes
+module _ (s : State) (shape : Shaped s) (i : ℕ) (p : List ℕ) (octets room : ℕ) where
+  abbrev numberGiven : ℕ
+  numberGiven = refusalOf (packetStep s i p octets room)
+
+  judged : unsound s octets ≡ false → numberGiven ≡ first 0 (numbersOf (packetCauses (s .lanes) i p room))
+  judged u = packet-order s shape i p octets room ∙ simp u
+
+  pub cap-refuses : unsound s octets ≡ false → (numberGiven ≡ 19) ↔ OverCap (laneAt s i) p
+  cap-refuses u = rw (judged u) (cap-exactly (s .lanes) i p room)
+
+  pub sum-refuses : unsound s octets ≡ false → (numberGiven ≡ 27) ↔ OverSum (s .lanes) i p
+  sum-refuses u = rw (judged u) (sum-exactly (s .lanes) i p room (shape .0))
+
+  module _ (n : ℕ) (refused : NoRoom n) (given : packetStep s i p octets room ≡ Refuse n) where
+    passed : unsound s octets ≡ false
+    unfolding packetStep
+    passed = either (unsound s octets) (λ u. absurd (not-24 refused (ap refusalOf (sym given) ∙ simp u))) (λ u. u)
+      where
+        not-24 : NoRoom n → n ≡ 24 → ⊥
+        not-24 (inl e) z = omega arith
+        not-24 (inr e) z = omega arith
+
+    found-sound : Sound s
+    found-sound = is-sound s shape (then-sound s octets passed .0)
+
+    told : first 0 (numbersOf (packetCauses (s .lanes) i p room)) ≡ n
+    told = sym (judged passed) ∙ ap refusalOf given
+
+    -- A last or unsegmented packet needs no block: 19 and 27 are given only for a packet that begins a group or adds to one
+    pub only-held : ToHold (laneAt s i) p
+    only-held = held-only s found-sound i p room n refused told
+
+    -- and a lane in its share isn't refused room
+    pub within-share : wouldHold (laneAt s i) p ≤ laneAt s i .settings .share → ⊥
+    within-share few = omega (arith, above-share s found-sound i p room n refused told)
 
 -- ---- missing = (count - last - 1) mod 16,384, or 0 for the first packet
 module _ (l : Lane) (c : ℕ) where
@@ -149,10 +177,6 @@ module _ (s : State) (shape : Shaped s) (e : sound s ≡ true) where
         let size : length pool ≡ 16384 = pool-then s i p (length pool) (length out) h (λ z. omega arith) in
         let fits = unit-fits s k i p pool size a on n d in
         rw h (refl, fits .0, fits .1)
-
-  -- ---- a lane in its share isn't refused room
-  pub within-share : (i : ℕ) (p : List ℕ) (octets room : ℕ) → wouldHold (laneAt s i) p ≤ laneAt s i .settings .share → packetStep s i p octets room ≡ Refuse 19 → ⊥
-  within-share i p octets room h z = room-in-share s i p octets room k h (sym (packet-order s shape i p octets room) ∙ ap refusalOf z)
 
   -- ---- no lane is above its cap
   pub within-cap : (i : ℕ) → held (laneAt s i) ≤ laneAt s i .settings .cap

@@ -4,6 +4,7 @@ pub mod Marks
 pub mod Blocks
 pub mod Steps
 pub mod Order
+pub mod Room
 pub mod Calls
 pub mod Groups
 pub mod Laws

@@ -1,11 +1,11 @@
--- A packet's step gives the refusal that the one list of tests gives: the plan is followed test by test, and what is left over, the two tests for 19
+-- A packet's step gives the refusal that the one list of tests gives: the plan is followed test by test, and what is left over, the tests for 19 and 27
 -- and the one for 20, fails where the answer isn't of that kind.
-use Prim.Native.Nat.{ℕ, _+_, _≤_}
+use Prim.Native.Nat.{ℕ, _+_}
 use mathlib.Core.Path.{_≡_, refl, sym, _∙_}
-use mathlib.Core.Bool.{Bool, true, false, cond, not, _&&_, true≢false}
+use mathlib.Core.Bool.{Bool, true, false, cond, not, _&&_}
 use mathlib.Core.List.{List, [], _∷_, _++_}
 use native.Mathlib.Omega.{arith}
-use borrow.Author.Tests.{ltb-true, le-ltb, eqb-true, eqb-false, eq-eqb, ne-eqb, not-true, not-false}
+use borrow.Author.Tests.{le-ltb, eqb-true, eqb-false, eq-eqb, ne-eqb, not-false}
 use lib.Dec.{eqb, ltb, leb}
 use lib.ListN.{getD, set}
 use Rattle.octets.specs.Order.{Test, _gives_, first, numbersOf}
@@ -23,9 +23,7 @@ use Rattle.lane.specs.Lane.{holding, closed}
 use Rattle.grouping.specs.Packets.{termsOf, laneTests, fault, userOctets}
 use Rattle.grouping.specs.Grouping.{repeats, goesOn, addedFrom}
 use Rattle.grouping.specs.Plans.{holdPlan, unitPlan, groupingPlan, acceptedPlan, packetPlan}
-use Rattle.lane.proofs.Fine.{is-fine, none-held}
-use Rattle.grouping.proofs.Accepted.{fault-most}
-use Rattle.grouping.proofs.Planned.{of-either}
+use Rattle.lane.proofs.Fine.{none-held}
 use Rattle.grouping.specs.declared.Terms.{Terms}
 use Rattle.state.specs.declared.State.{State}
 use Rattle.state.specs.State.{laneAt, within, unsound}
@@ -33,8 +31,8 @@ use Rattle.state.proofs.Within.{share-fits}
 use Rattle.intake.specs.Calls.{settle, packetStep}
 use Rattle.state.proofs.Soundness.{then-sound}
 use Rattle.state.specs.Clauses.{Shaped}
-use Rattle.calls.specs.Order.{refusalOf, wouldGroup, wouldHold, lanesWith, wouldWrite, packetTests}
-use Rattle.calls.proofs.Sound.{Sound, is-sound, lane-fine}
+use Rattle.calls.specs.Order.{refusalOf, wouldGroup, wouldWrite, packetTests}
+use Rattle.calls.proofs.Sound.{is-sound}
 
 and-false : (b : Bool) → b && false ≡ false
 and-false true = refl
@@ -45,11 +43,11 @@ module _ (ls : List Lane) (i room : ℕ) where
   abbrev l : Lane
   l = getD ls i closed
 
-  abbrev Last : ℕ → ℕ → ℕ
+  abbrev pub Last : ℕ → ℕ → ℕ
   Last n u =
       first 0
       ((ltb (l .settings .cap) (blocksFor n) gives 19)
-      ∷ (not (within (set ls i (holding l n))) gives 19)
+      ∷ (not (within (set ls i (holding l n))) gives 27)
       ∷ (ltb room u gives 20)
       ∷ [])
 
@@ -106,7 +104,7 @@ reading-numbers p = either (isSpace p) (λ e. simp e (omega arith)) (λ e. simp 
 lane-numbers : (t : Terms) (p : List ℕ) → Numbers (numbersOf (laneTests t p))
 lane-numbers t p = omega arith
 
-faults : (t : Terms) (p : List ℕ) (rest : List (Test (List ℕ)))
+pub faults : (t : Terms) (p : List ℕ) (rest : List (Test (List ℕ)))
     → first 0 (numbersOf (readingTests p ++ laneTests t p ++ rest)) ≡ cond (not (eqb (fault t p) 0)) (fault t p) (first 0 (numbersOf rest))
 unfolding refusal fault
 faults t p rest =
@@ -127,31 +125,3 @@ ordered s shape i p octets room =
     (λ b. simp b (either (repeats l (count p)) (λ c. simp c)
     (λ c. simp c (either (leb mostPackets (l .packets)) (λ d. simp d)
     (λ d. simp d (grouping (s .lanes) i room (share-fits (s .lanes) i (not-false _ a) 0 (omega (arith, none-held)) (is-sound s shape (then-sound s octets e .0) .room)) p)))))))))))
-
--- ---- no test for 19 holds of an open lane that would hold no more than its cap and has the room beside the others
-abbrev Not19 : ℕ → Type 0
-Not19 n = n ≡ 19 → ⊥
-
-module _ (s : State) (i : ℕ) (p : List ℕ) (octets room : ℕ) where
-  abbrev own : Lane
-  own = laneAt s i
-
-  abbrev h : ℕ
-  h = wouldHold own p
-
-  pub not-19 : (own .opened ≡ true → (h ≤ own .settings .cap) × (within (lanesWith (s .lanes) i p) ≡ true)) → Not19 (first 0 (numbersOf (packetTests s i p octets room)))
-  not-19 fits =
-      of-either Not19 (unsound s octets) (λ a z. omega arith)
-      (λ a. of-either Not19 (not (own .opened)) (λ b z. omega arith)
-      (λ b.
-      let both = fits (not-false _ b) in
-      rw (faults (termsOf own) p _) (of-either Not19 (not (eqb (fault (termsOf own) p) 0)) (λ c z. omega (arith, fault-most (termsOf own) p))
-      (λ c. of-either Not19 (repeats own (count p)) (λ d z. omega arith)
-      (λ d. of-either Not19 (leb mostPackets (own .packets)) (λ e z. omega arith)
-      (λ e. of-either Not19 (ltb (own .settings .cap) h) (λ f z. omega (arith, ltb-true (own .settings .cap) h f))
-      (λ f. of-either Not19 (not (within (lanesWith (s .lanes) i p))) (λ g. absurd (true≢false (sym (both .1) ∙ not-true _ g)))
-      (λ g. of-either Not19 (ltb room (wouldWrite own p)) (λ j z. omega arith) (λ j z. omega arith)))))))))
-
-  -- so of one that would hold no more than its share
-  pub room-in-share : Sound s → h ≤ own .settings .share → Not19 (first 0 (numbersOf (packetTests s i p octets room)))
-  room-in-share k few = not-19 (λ o. (omega (arith, is-fine own (lane-fine s k i) .legal o .share), share-fits (s .lanes) i o (wouldGroup own p) few (k .room)))

@@ -19,7 +19,7 @@ use Rattle.grouping.specs.declared.Plan.{Plan}
 use Rattle.lane.specs.Lane.{held, holding, fine}
 use Rattle.grouping.specs.Steps.{laneAfter}
 use Rattle.grouping.proofs.Accepted.{accepted-data}
-use Rattle.grouping.proofs.Planned.{of-either, ToHold, Planned, planned}
+use Rattle.grouping.proofs.Planned.{of-either, Planned, planned}
 use Rattle.grouping.proofs.Planned as plan
 use Rattle.grouping.specs.Packets.{termsOf}
 use Rattle.state.specs.declared.State.{State}
@@ -40,7 +40,7 @@ pub record Fits (s : State) (i : ℕ) (d : Step) : Type 0 where
   pub room : within (set (s .lanes) i (laneAfter (laneAt s i) d)) ≡ true
 
 pub data Stepped (s : State) (i : ℕ) (p : List ℕ) (octets room : ℕ) : Step → Type 0 where
-  refuses : (k : ℕ) → (k ≡ 24 → unsound s octets ≡ true) → (k ≡ 19 → ToHold (laneAt s i) p) → Stepped s i p octets room (Refuse k)
+  refuses : (k : ℕ) → Stepped s i p octets room (Refuse k)
   repeats : Stepped s i p octets room Repeat
   strays : (a : Added) → Fits s i (Stray a) → Stepped s i p octets room (Stray a)
   ends : (a : Added) (on : Bool) (n : ℕ) → Fits s i (Unit a on n) → n ≡ cond on (laneAt s i .octets) 0 + length (userOf s i p) → n ≤ room → Stepped s i p octets room (Unit a on n)
@@ -56,26 +56,22 @@ module _ (s : State) (k : Sound s) (i : ℕ) (p : List ℕ) (octets room : ℕ) 
 
   settled : {d : Plan} → Planned own p room d → Stepped s i p octets room (settle (s .lanes) i d)
   unfolding settle laneAfter
-  settled (plan.refuses n few h) = refuses n (λ e. absurd (omega arith)) h
+  settled (plan.refuses n) = refuses n
   settled plan.repeats = repeats
   settled (plan.strays a o f g) = strays a (record { small = opened-small s k i o; good = g; room = room-empty (laneAfter own (Stray a)) o o refl refl })
   settled (plan.ends a on n o f g e h) = ends a on n (record { small = opened-small s k i o; good = g; room = room-empty (laneAfter own (Unit a on n)) o o refl refl })
       (omega (arith, accepted-data (termsOf own) p f .1)) h
-  settled (plan.holds a on n o f g e h t) =
+  settled (plan.holds a on n o f g e h) =
       of-either (Stepped s i p octets room) (within (set (s .lanes) i (holding own n)))
       (λ r. holds a on n (record { small = opened-small s k i o; good = g; room = same-need (s .lanes) i (holding own n) (laneAfter own (Hold a on n)) (need-open (laneAfter own (Hold a on n)) o ∙ sym (need-open (holding own n) o)) r })
       (omega (arith, accepted-data (termsOf own) p f .1)))
-      (λ r. refuses 19 (λ z. absurd (omega arith)) (λ z. t))
+      (λ r. refuses 27)
 
   pub stepped : Stepped s i p octets room (packetStep s i p octets room)
   unfolding packetStep
   stepped =
-      of-either (Stepped s i p octets room) (unsound s octets) (λ e. refuses 24 (λ z. e) (λ z. absurd (omega arith)))
+      of-either (Stepped s i p octets room) (unsound s octets) (λ e. refuses 24)
       (λ e. settled (planned own p room (lane-fine s k i)))
-
--- a refusal that was given has its reason
-pub refused-why : (s : State) (i : ℕ) (p : List ℕ) (octets room n : ℕ) → Stepped s i p octets room (Refuse n) → (n ≡ 24 → unsound s octets ≡ true) × (n ≡ 19 → ToHold (laneAt s i) p)
-refused-why s i p octets room n (refuses m h t) = (h, t)
 
 -- a step other than 24 was taken with a pool of 16,384 octets
 pub pool-then : (s : State) (i : ℕ) (p : List ℕ) (octets room : ℕ) {d : Step} → packetStep s i p octets room ≡ d → (refusalOf d ≡ 24 → ⊥) → octets ≡ 16384
@@ -108,7 +104,7 @@ module _ (s : State) (k : Sound s) (i : ℕ) where
 
   pub after-step : (p : List ℕ) (octets room : ℕ) {d : Step} → Stepped s i p octets room d → Sound (answered s i d .state)
   unfolding laneAfter marksAfter
-  after-step p octets room (refuses n h t) = stays
+  after-step p octets room (refuses n) = stays
   after-step p octets room repeats = stays
   after-step p octets room (strays a f) = emptied s k i (f .small) (laneAfter (laneAt s i) (Stray a)) (f .good) (f .room) refl
   after-step p octets room (ends a on n f e h) = emptied s k i (f .small) (laneAfter (laneAt s i) (Unit a on n)) (f .good) (f .room) refl

@@ -50,9 +50,9 @@ wouldWrite l p =
     ∷ (eqb (flags p) 2 && goesOn l (flags p) (count p) gives l .octets + userOctets (l .settings) p)
     ∷ [])
 
--- Packet to a lane, after 24: 11, reading, 12, 13, 14, 15, 16, 17, the repeat test, 18, 19, 20, judged on the lanes. A Repeat is no refusal, and no later test is
--- asked. A lane that would hold h is refused 19 exactly when h exceeds its cap, or the lanes would not be within the pool: h or its share, the larger, plus the
--- same for every other open lane, would exceed 64
+-- Packet to a lane, after 24: 11, reading, 12, 13, 14, 15, 16, 17, the repeat test, 18, 19, 27, 20, judged on the lanes. A Repeat is no refusal, and no later
+-- test is asked. A lane that would hold h is refused 19 exactly when h exceeds its cap, and else 27 exactly when the lanes would not be within the pool: h or its
+-- share, the larger, plus the same for every other open lane, would exceed 64
 abbrev pub packetCauses : List Lane → ℕ → List ℕ → ℕ → List (Test (List ℕ))
 packetCauses lanes i p room =
     (not (getD lanes i closed .opened) gives (11 ∷ []))
@@ -61,7 +61,7 @@ packetCauses lanes i p room =
     ++ (repeats (getD lanes i closed) (count p) gives (0 ∷ []))
     ∷ (leb mostPackets (getD lanes i closed .packets) gives (18 ∷ []))
     ∷ (ltb (getD lanes i closed .settings .cap) (wouldHold (getD lanes i closed) p) gives (19 ∷ []))
-    ∷ (not (within (lanesWith lanes i p)) gives (19 ∷ []))
+    ∷ (not (within (lanesWith lanes i p)) gives (27 ∷ []))
     ∷ (ltb room (wouldWrite (getD lanes i closed) p) gives (20 ∷ []))
     ∷ [])
 

@@ -62,7 +62,7 @@ module _ (s : State) (i : ℕ) (p pool : List ℕ) (at octets room : ℕ) where
       → ((k : ℕ) → k < laneAfter (laneAt s i) d .octets → place (marksAfter (s .marks) i (laneAt s i) d) i k ≡ at → ⊥)
       → getD (poolAfter (s .marks) i (laneAt s i) d (userOf s i p) pool) at 0 ≡ getD pool at 0
   unfolding poolAfter marksAfter laneAfter
-  step-stays (refuses n h t) other = refl
+  step-stays (refuses n) other = refl
   step-stays again other = refl
   step-stays (strays a f) other = refl
   step-stays (ends a on n f e h) other = refl

@@ -26,9 +26,9 @@ use Rattle.grouping.specs.Steps.{laneAfter}
 use Rattle.lane.proofs.Fine.{is-fine, is-legal, none-held}
 use Rattle.grouping.proofs.Planned.{Planned, planned, refuses, repeats, strays, ends, holds}
 use Rattle.state.specs.declared.State.{State}
-use Rattle.state.specs.State.{freshState, laneAt, total, within}
+use Rattle.state.specs.State.{freshState, laneAt, within}
 use Rattle.state.proofs.Soundness.{opened-small}
-use Rattle.state.proofs.Within.{others, need-closed, need-open, others-same, share-fits, alone-fits}
+use Rattle.state.proofs.Within.{others, need-open, others-same, share-fits, alone-fits, none-beside}
 use Rattle.intake.specs.Calls.{openedWith, openingRefusal, closingRefusal, settle}
 use Rattle.intake.specs.After.{opening, closing, closingOut, answerOf, taking}
 use Rattle.demands.specs.Runs.{ours, Handed, Start, begun, Call, opens, takes, closes, Reply, toOpening, toPacket, reply, after, run, replies, laneOf, names, own, repliesTo}
@@ -64,11 +64,11 @@ module _ (xs ys : List Lane) (i : ℕ) (same : getD xs i closed ≡ getD ys i cl
 
   same-step : (p : List ℕ) (room : ℕ) {d : Plan} → Planned theirs p room d → InShare (laneAfter theirs (settle ys i d)) → settle xs i d ≡ settle ys i d
   unfolding settle laneAfter
-  same-step p room (refuses n few h) w = refl
+  same-step p room (refuses n) w = refl
   same-step p room repeats w = refl
   same-step p room (strays a on f g) w = refl
   same-step p room (ends a on n op f g e h) w = refl
-  same-step p room (holds a on n op f g e h t) w =
+  same-step p room (holds a on n op f g e h) w =
       let good = is-fine (laneAfter theirs (Hold a on n)) g in
       let small : i < 8 = opened-small ys eight i op in
       let alone : within (set ys i (holding theirs n)) ≡ true =
@@ -213,16 +213,6 @@ module _ (i : ℕ) where
       (λ e. simp e (along calls (after x c) y (other-call x y c (eqb-false (laneOf c) i e) k) (simp e at w) (λ m. never (suc m))))
 
 -- ---- at the fresh start the lane is closed in both, whatever lies in the pools
-no-need : (n i : ℕ) → others (replicate n closed) i ≡ 0
-unfolding others total
-no-need zero i = refl
-no-need (suc n) zero = omega (arith, need-closed, total-none n)
-  where
-    total-none : (n : ℕ) → total (replicate n closed) ≡ 0
-    total-none zero = refl
-    total-none (suc n) = omega (arith, need-closed, total-none n)
-no-need (suc n) (suc i) = omega (arith, need-closed, no-need n i)
-
 all-closed : (n i : ℕ) → getD (replicate n closed) i closed ≡ closed
 all-closed zero i = refl
 all-closed (suc n) zero = refl
@@ -243,6 +233,6 @@ alike-replies i calls shared alone w never =
       size = shared .whole;
       size-alone = alone .whole;
       slot = begun-slot shared i ∙ sym (begun-slot alone i);
-      no-other = no-need 8 i;
+      no-other = none-beside (replicate 8 closed) i (λ j h other. all-closed 8 j);
     })
     w never

@@ -1,4 +1,5 @@
 pub mod Codes
+pub mod Pasts
 pub mod Reached
 pub mod Moves
 pub mod View
@@ -11,3 +12,4 @@ pub mod Again
 pub mod Demand3
 pub mod InShare
 pub mod RunLaws
+pub mod WhoseFault

@@ -175,7 +175,7 @@ module _ (s : State) (k : Sound s) (i : ℕ) (p : List ℕ) where
 
     held-lowest : {d : Step} {m : ℕ} {givenUp : Bool} → Stepped s i p octets room d → Flagged p d → answerOf d ≡ Held m givenUp → Lowest d
     unfolding marksAfter laneAfter
-    held-lowest (now.refuses n h t) flagged told = cc
+    held-lowest (now.refuses n) flagged told = cc
     held-lowest now.repeats flagged told = cc
     held-lowest (now.strays a f) flagged told = cc
     held-lowest (now.ends a on n f e h) flagged told = cc

@@ -2,7 +2,7 @@
 -- promised.
 use Prim.Native.Nat.{ℕ, _+_, _≤_, _<_}
 use Prim.{Unit}
-use mathlib.Core.Path.{_≡_, refl, ap, ap₂, _∙_}
+use mathlib.Core.Path.{_≡_, refl, sym, ap, ap₂, subst, _∙_}
 use mathlib.Core.Bool.{Bool, true, false, not, _&&_, _||_}
 use mathlib.Core.List.{List}
 use native.Mathlib.Omega.{arith}
@@ -22,11 +22,9 @@ use Rattle.lane.specs.Lane.{held, holding, illegal, talliesPossible, fine, clos
 use Rattle.grouping.specs.Packets.{termsOf, fault, userOctets}
 use Rattle.grouping.specs.Grouping.{repeats, goesOn, addedFrom}
 use Rattle.grouping.specs.Plans.{holdPlan, unitPlan, groupingPlan, acceptedPlan, packetPlan}
-use Rattle.lane.proofs.Fine.{is-fine}
 use Rattle.state.specs.declared.State.{State}
 use Rattle.intake.specs.declared.Answer.the-variants as answer
 use Rattle.state.specs.State.{laneAt, within}
-use Rattle.state.proofs.Within.{share-fits}
 use Rattle.intake.specs.Calls.{openedWith, openingRefusal, closingRefusal, settle}
 use Rattle.intake.specs.After.{answerOf, opening, closing, taking, takingPool, takingOut}
 use Rattle.demands.specs.Runs as runs
@@ -36,6 +34,7 @@ use Rattle.demands.specs.Past.{laneFrom}
 use Rattle.demands.specs.Demand3.{NothingAmiss, HasRoom, RoomInShare, OpensIfFine, ClosesIfFine}
 use Rattle.demands.specs.Laws.{GetsRoom, RepeatsChangeNothing}
 use Rattle.calls.proofs.Sound.{not-unsound, lane-fine}
+use Rattle.calls.proofs.Room.{room-in-share as has-room}
 use Rattle.demands.proofs.Reached.{reached-sound}
 use Rattle.demands.proofs.View.{stepFor, run-size, settled, took-reply}
 use Rattle.calls.proofs.Laws.{repeat-leaves}
@@ -64,9 +63,12 @@ module _ (ls : List Lane) (i : ℕ) (p : List ℕ) (room : ℕ) where
   abbrev own : Lane
   own = getD ls i closed
 
-  to-hold : (a : Added) (on : Bool) (n : ℕ) → blocksFor n ≤ own .settings .cap → within (set ls i (holding own n)) ≡ true → Taken (settle ls i (holdPlan (own .settings) a on n))
+  pub held-if-room : (a : Added) (on : Bool) (n : ℕ) → blocksFor n ≤ own .settings .cap → within (set ls i (holding own n)) ≡ true → settle ls i (holdPlan (own .settings) a on n) ≡ Hold a on n
   unfolding holdPlan settle
-  to-hold a on n most beside = simp (le-ltb (own .settings .cap) (blocksFor n) most, beside) tt
+  held-if-room a on n most beside = simp (le-ltb (own .settings .cap) (blocksFor n) most, beside)
+
+  to-hold : (a : Added) (on : Bool) (n : ℕ) → blocksFor n ≤ own .settings .cap → within (set ls i (holding own n)) ≡ true → Taken (settle ls i (holdPlan (own .settings) a on n))
+  to-hold a on n most beside = subst Taken (sym (held-if-room a on n most beside)) tt
 
   to-end : (a : Added) (on : Bool) (n : ℕ) → n ≤ room → Taken (settle ls i (unitPlan room a on n))
   unfolding unitPlan settle
@@ -104,7 +106,7 @@ module _ (start : Start) (calls : List Call) (i : ℕ) (packet out : List ℕ) w
   abbrev l : Lane
   l = laneAt (x .state) i
 
-  planned : stepFor x i packet out ≡ settle (x .state .lanes) i (packetPlan l packet (length out))
+  pub planned : stepFor x i packet out ≡ settle (x .state .lanes) i (packetPlan l packet (length out))
   planned = settled x (reached-sound start calls) (run-size (begun start) calls ∙ start .whole) i packet out
 
   gets : NothingAmiss l packet out → HasRoom (x .state .lanes) i packet → isRefused (reply x (takes i packet out)) ≡ false
@@ -117,8 +119,7 @@ module _ (start : Start) (calls : List Call) (i : ℕ) (packet out : List ℕ) w
   in-share : NothingAmiss l packet out → wouldHold l packet ≤ l .settings .share → isRefused (reply x (takes i packet out)) ≡ false
   in-share fine′ few =
       let k = reached-sound start calls in
-      gets fine′
-      (omega (arith, few, is-fine l (lane-fine (x .state) k i) .legal (fine′ .0) .share), share-fits (x .state .lanes) i (fine′ .0) (wouldGroup l packet) few (k .room))
+      gets fine′ (has-room (x .state) k i packet (fine′ .0) few)
 
   again : l .opened ≡ true → fault (termsOf l) packet ≡ 0 → repeats l (count packet) ≡ true
       → (reply x (takes i packet out) ≡ toPacket answer.Repeat out) × (runs.after x (takes i packet out) ≡ x)

@@ -61,7 +61,7 @@ module _ (s : State) (k : Sound s) (i : ℕ) (p pool : List ℕ) (size : length 
   step-slot : {octets room : ℕ} {d : Step} → Stepped s i p octets room d
       → slotAt (answered s i d .state) (poolAfter (s .marks) i (laneAt s i) d (userOf s i p) pool) i ≡ slotAfter (slotAt s pool i) p d
   unfolding laneAfter marksAfter poolAfter
-  step-slot (refuses n h t) = ap (λ (t : State). slotAt t pool i) (sym (same-state s i))
+  step-slot (refuses n) = ap (λ (t : State). slotAt t pool i) (sym (same-state s i))
   step-slot repeats = ap (λ (t : State). slotAt t pool i) (sym (same-state s i))
   step-slot (strays a f) = emptied s k i (f .small) (laneAfter (laneAt s i) (Stray a)) _ pool refl
   step-slot (ends a on n f e h) = emptied s k i (f .small) (laneAfter (laneAt s i) (Unit a on n)) _ pool refl

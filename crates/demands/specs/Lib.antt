@@ -3,4 +3,5 @@ pub mod Past
 pub mod Codes
 pub mod Demand2
 pub mod Demand3
+pub mod WhoseFault
 pub mod Laws

@@ -157,7 +157,7 @@ openLane =
     changes {Given = Opening} toldNumber (λ g. openingTests (g .state) (g .lane) (g .settings) (length (g .pool))) (λ g. toldNumber (openingOf g .refusal))
     {Lent = State} (λ g. g .state) (λ g. openingOf g .state)
 
--- ---- Packet to a lane: 24, 11, reading, 12, 13, 14, 15, 16, 17, the repeat test, 18, 19, 20. A state has eight lanes and 64 marks, as its arrays say
+-- ---- Packet to a lane: 24, 11, reading, 12, 13, 14, 15, 16, 17, the repeat test, 18, 19, 27, 20. A state has eight lanes and 64 marks, as its arrays say
 pub record Taking : Type 0 where
   pub state : State
   pub shaped : Shaped state

@@ -5,7 +5,7 @@ use mathlib.Core.Path.{_≡_, refl, sym, ap, ap₂, _∙_}
 use mathlib.Core.Bool.{Bool, true, false, not, _&&_, true≢false}
 use mathlib.Core.List.{List, [], _∷_}
 use native.Mathlib.Omega.{arith}
-use borrow.Author.Tests.{eq-eqb}
+use borrow.Author.Tests.{eq-eqb, ne-eqb}
 use lib.ListN.{length, getD, take}
 use lib.Dec.{eqb}
 use Rattle.octets.proofs.Order.{either, both}
@@ -17,7 +17,8 @@ use Rattle.intake.specs.Calls.{packetStep}
 use Rattle.intake.specs.After.{opening, closing, closingOut, outAfter, userOf, taking, takingOut}
 use Rattle.demands.specs.Runs.{ours, Handed, Start, begun, Call, opens, takes, closes, Reply, toOpening, toPacket, toClosing, reply, after, run, replies, names, own, repliesTo}
 use Rattle.demands.specs.Demand3.{InShare, StaysInShare, NoneUnpromised}
-use Rattle.evidence.specs.Examples.{zeros, ones, interleaved, toldLane0, toldLane1, crowded, toldCrowded, toldUncrowded, unpromised, all64, toldAll64, freeBlocks, freeAround, freeAll64, shares20, toldShares20, Told, opened, oneOctet, twoBlocks, laneAfterRun, lanesAfterRun, MeetsUsedAgain, Examples}
+use Rattle.evidence.specs.Examples.{zeros, ones, interleaved, toldLane0, toldLane1, crowded, toldCrowded, toldUncrowded, unpromised, all64, toldAll64, freeBlocks, freeAround, freeAll64, shares20, toldShares20, whoseFault, toldWhoseFault, lane0Closed, Told, opened, oneOctet, twoBlocks, laneAfterRun, lanesAfterRun, MeetsUsedAgain, MeetsWhoseFault, Examples}
+use Rattle.demands.specs.Past.{shut, pastOf}
 use Rattle.demands.specs.Demand3.{NothingAmiss, HasRoom}
 use Rattle.calls.specs.Order.{wouldHold}
 use Rattle.demands.proofs.View.{after-size}
@@ -159,6 +160,10 @@ shares20-on : (x : Handed) → repliesOn freshState x shares20 ≡ toldShares20
 unfolding calling stateAfter replyOn repliesOn
 shares20-on x = refl
 
+whose-fault-on : (x : Handed) → repliesOn freshState x whoseFault ≡ toldWhoseFault
+unfolding calling stateAfter replyOn repliesOn
+whose-fault-on x = refl
+
 -- packets that meet the hypotheses
 in-its-share : NothingAmiss (laneAfterRun 0 opened) oneOctet [] × (wouldHold (laneAfterRun 0 opened) oneOctet ≤ laneAfterRun 0 opened .settings .share)
 unfolding remembering
@@ -178,6 +183,18 @@ meets-used-again = record {
   has-room = (omega arith, refl);
   is-due = omega arith;
 }
+
+-- lane 0 was closed, and no other but lane 1 was opened
+none-but-1 : (j : ℕ) → (j ≡ 1 → ⊥) → pastOf ours j zeros lane0Closed ≡ shut
+unfolding remembering
+none-but-1 j not1 =
+    either (eqb 0 j)
+    (λ e. simp (e, ne-eqb 1 j (λ z. not1 (sym z))))
+    (λ e. simp (e, ne-eqb 1 j (λ z. not1 (sym z))))
+
+meets-whose-fault : MeetsWhoseFault
+unfolding remembering
+meets-whose-fault = record { is-19 = refl; is-27 = refl; same-lane = refl; others-closed = λ j h not1. none-but-1 j not1 }
 
 -- ---- all of it
 -- a lane that is told one thing in company and another alone isn't replied as alone
@@ -207,5 +224,7 @@ examples = record {
   in-share = in-its-share;
   above-share = above-share;
   used-again = meets-used-again;
+  whose-fault = meets-whose-fault;
   shares20-told = λ start. same-replies (begun start) (start .whole) shares20 ∙ shares20-on (begun start);
+  whose-fault-told = λ start. same-replies (begun start) (start .whole) whoseFault ∙ whose-fault-on (begun start);
 }

@@ -24,23 +24,11 @@ use Rattle.demands.specs.Runs.{ours, Handed, Start, begun, Call, opens, takes, 
 use Rattle.demands.specs.Past.{Past, shut, since, settingsOf, acceptedIn, laneFrom, lanesFrom, later, pastFrom, pastOf}
 use Rattle.demands.specs.Demand2.{causes, replyBy, Demand2}
 use Rattle.demands.specs.Demand3.{Demand3}
+use Rattle.demands.proofs.Pasts.{past-more}
 use Rattle.demands.proofs.Demand2.{demand2}
 use Rattle.evidence.specs.Examples.{zeros, settings, beginning, unsegmented, room}
 use Rattle.evidence.specs.ShutOut.{answerIn, missingTold, MakesUpMissing, MakesUpCredit, ShutOut, RefusesEverything, RefusesAllButTheFirst, AnswersConstantly, ReadsConstantly, StoresNothing, OnlyNods, IsShutOut, CanBeWritten}
 use Rattle.evidence.proofs.Computed.{running, remembering}
-
--- ---- one more call at the end of a run
-module _ (n : AnyIntake) where
-  run-more : (x : Handed) (calls : List Call) (c : Call) → run n x (calls ++ c ∷ []) ≡ n .leaves (run n x calls) c
-  unfolding run
-  run-more x [] c = refl
-  run-more x (d ∷ calls) c = run-more (n .leaves x d) calls c
-
-  past-more : (i : ℕ) (past : Past) (x : Handed) (calls : List Call) (c : Call)
-      → pastFrom n i past x (calls ++ c ∷ []) ≡ cond (names i c) (later (pastFrom n i past x calls) c (n .replies-to (run n x calls) c)) (pastFrom n i past x calls)
-  unfolding run pastFrom
-  past-more i past x [] c = refl
-  past-more i past x (d ∷ calls) c = past-more i _ (n .leaves x d) calls c
 
 -- ---- an intake that meets demand 2
 module _ (n : AnyIntake) (d : Demand2 n) (start : Start) where

@@ -3,7 +3,7 @@
 use Prim.Native.Nat.{ℕ, _≤_, _<_}
 use mathlib.Core.Path.{_≡_}
 use mathlib.Core.Bool.{true, false}
-use mathlib.Core.List.{List, [], _∷_}
+use mathlib.Core.List.{List, [], _∷_, _++_}
 use lib.ListN.{getD, replicate, length-replicate}
 use Rattle.writing.specs.Space.{spaceOctets}
 use Rattle.pool.specs.Octets.{poolOctets}
@@ -18,6 +18,7 @@ use Rattle.demands.specs.Runs.{ours, Handed, Start, begun, Call, opens, takes, 
 use Rattle.calls.specs.Order.{wouldHold}
 use Rattle.demands.specs.Past.{acceptedIn, laneFrom, lanesFrom, pastOf}
 use Rattle.demands.specs.Demand3.{StaysInShare, NoneUnpromised, NothingAmiss, HasRoom, Belongs, marksFor, placeFor}
+use Rattle.demands.specs.WhoseFault.{packetNumber, OthersClosed}
 
 -- two starts, with different content in the pool: one octet all over
 abbrev filled : ℕ → Start
@@ -132,7 +133,7 @@ crowded =
     ∷ []
 
 abbrev pub toldCrowded : List Reply
-toldCrowded = toOpening 0 ∷ toPacket (Refused 19) [] ∷ []
+toldCrowded = toOpening 0 ∷ toPacket (Refused 27) [] ∷ []
 
 abbrev pub toldUncrowded : List Reply
 toldUncrowded = toOpening 0 ∷ toPacket (Held 0 false) [] ∷ []
@@ -175,7 +176,7 @@ toldAll64 =
     toOpening 0
     ∷ toOpening 0
     ∷ toPacket (Held 0 false) []
-    ∷ toPacket (Refused 19) []
+    ∷ toPacket (Refused 27) []
     ∷ toClosing 0 (0 ∷ 7 ∷ 0 ∷ 42 ∷ 0 ∷ 0 ∷ 0 ∷ 0 ∷ 0 ∷ 0 ∷ 0 ∷ 1 ∷ 0 ∷ 0 ∷ 0 ∷ 0 ∷ 0 ∷ 0 ∷ 0 ∷ 1 ∷ [])
     ∷ toPacket (Held 0 false) []
     ∷ toPacket (Unit 1 0 true) (3 ∷ 9 ∷ [])
@@ -207,9 +208,9 @@ abbrev pub toldShares20 : List Reply
 toldShares20 =
     toOpening 0
     ∷ toOpening 0
-    ∷ toPacket (Refused 19) []
+    ∷ toPacket (Refused 27) []
     ∷ toPacket (Held 0 false) []
-    ∷ toPacket (Refused 19) []
+    ∷ toPacket (Refused 27) []
     ∷ toPacket (Held 0 false) []
     ∷ []
 
@@ -248,6 +249,45 @@ pub record MeetsUsedAgain : Type 0 where
   pub has-room : HasRoom (lanesAfterRun freedAgain) 1 oneOctet
   pub is-due : placeFor (stateAfterRun freedAgain) 1 oneOctet 0 < wouldHold (laneAfterRun 1 freedAgain) oneOctet
 
+-- ---- whose fault no room is: lane 1 has share 1 and cap 2, and 63 blocks are promised to lane 0. Three blocks are above its cap, whatever lane 0 does; two are not,
+-- and are held once lane 0 is closed
+abbrev pub beside63 : List Call
+beside63 = opens 0 (settings 63 63) ∷ opens 1 (settings 1 2) ∷ []
+
+abbrev pub threeBlocks : List ℕ
+threeBlocks = beginning 0 (replicate 513 1)
+
+abbrev pub whoseFault : List Call
+whoseFault =
+    beside63
+    ++ (takes 1 threeBlocks []
+    ∷ takes 1 twoBlocks []
+    ∷ closes 0 (room 20)
+    ∷ takes 1 threeBlocks []
+    ∷ takes 1 twoBlocks []
+    ∷ [])
+
+abbrev pub toldWhoseFault : List Reply
+toldWhoseFault =
+    toOpening 0
+    ∷ toOpening 0
+    ∷ toPacket (Refused 19) []
+    ∷ toPacket (Refused 27) []
+    ∷ toClosing 0 (0 ∷ 7 ∷ 0 ∷ 42 ∷ 0 ∷ 0 ∷ 0 ∷ 0 ∷ 0 ∷ 0 ∷ 0 ∷ 0 ∷ 0 ∷ 0 ∷ 0 ∷ 0 ∷ 0 ∷ 0 ∷ 0 ∷ 0 ∷ [])
+    ∷ toPacket (Refused 19) []
+    ∷ toPacket (Held 0 false) []
+    ∷ []
+
+-- so the hypotheses of NoOtherDecides, HeldIfOthersClosed and Never27BesideClosed are met
+abbrev pub lane0Closed : List Call
+lane0Closed = beside63 ++ (closes 0 (room 20) ∷ [])
+
+pub record MeetsWhoseFault : Type 0 where
+  pub is-19 : packetNumber (run ours (begun zeros) beside63) 1 threeBlocks [] ≡ 19
+  pub is-27 : packetNumber (run ours (begun zeros) beside63) 1 twoBlocks [] ≡ 27
+  pub same-lane : laneAfterRun 1 beside63 ≡ laneAfterRun 1 lane0Closed
+  pub others-closed : OthersClosed 1 (λ j. pastOf ours j zeros lane0Closed)
+
 -- ---- all that is computed
 pub record Examples : Type 0 where
   -- each lane is replied in company what it is alone, and the hypotheses of AsAlone hold
@@ -266,7 +306,9 @@ pub record Examples : Type 0 where
   pub all64-told : (start : Start) → replies ours (begun start) all64 ≡ toldAll64
   pub all64-free : (start : Start) → freeAround (begun start) all64 ≡ freeAll64
   pub shares20-told : (start : Start) → replies ours (begun start) shares20 ≡ toldShares20
+  pub whose-fault-told : (start : Start) → replies ours (begun start) whoseFault ≡ toldWhoseFault
   -- and the hypotheses of the other statements can be met
   pub in-share : NothingAmiss (laneAfterRun 0 opened) oneOctet [] × (wouldHold (laneAfterRun 0 opened) oneOctet ≤ laneAfterRun 0 opened .settings .share)
   pub above-share : NothingAmiss (laneAfterRun 0 opened) twoBlocks [] × HasRoom (lanesAfterRun opened) 0 twoBlocks
   pub used-again : MeetsUsedAgain
+  pub whose-fault : MeetsWhoseFault

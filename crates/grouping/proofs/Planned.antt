@@ -4,7 +4,6 @@ use Prim.Native.Nat.{ℕ, _+_, _*_, _-_, _%_, _≤_, _<_}
 use mathlib.Core.Path.{_≡_, refl, sym, _∙_}
 use mathlib.Core.Bool.{Bool, true, false, cond, not, _&&_, true≢false}
 use mathlib.Core.List.{List}
-use mathlib.Core.Logic.{_⊎_, inl, inr}
 use native.Mathlib.Nat.{zero-add}
 use native.Mathlib.Omega.{arith}
 use borrow.Author.Tests.{eqb-true, eqb-false, ltb-false, leb-false, not-false}
@@ -26,26 +25,20 @@ use Rattle.grouping.specs.Grouping as rule
 use Rattle.grouping.specs.Plans.{holdPlan, unitPlan, groupingPlan, acceptedPlan, packetPlan}
 use Rattle.grouping.specs.Steps.{counted, laneAfter}
 use Rattle.lane.proofs.Fine.{Tallies, Fine, is-fine, fine-is}
-use Rattle.grouping.proofs.Accepted.{fault-most}
 
 -- what holds of both outcomes of a test holds of the choice
 pub of-either : {A : Type 0} (P : A → Type 0) (b : Bool) {x y : A} → (b ≡ true → P x) → (b ≡ false → P y) → P (cond b x y)
 of-either P true f g = f refl
 of-either P false f g = g refl
 
--- a packet that begins a group or adds to one
-abbrev pub ToHold : Lane → List ℕ → Type 0
-ToHold l s = (flags s ≡ 1) ⊎ ((flags s ≡ 0) × (goesOn l (flags s) (count s) ≡ true))
-
 pub data Planned (l : Lane) (s : List ℕ) (room : ℕ) : Plan → Type 0 where
-  refuses : (k : ℕ) → k ≤ 20 → (k ≡ 19 → ToHold l s) → Planned l s room (Sure (Refuse k))
+  refuses : (k : ℕ) → Planned l s room (Sure (Refuse k))
   repeats : Planned l s room (Sure Repeat)
   strays : (a : Added) → l .opened ≡ true → fault (termsOf l) s ≡ 0 → fine (laneAfter l (Stray a)) ≡ true → Planned l s room (Sure (Stray a))
   ends : (a : Added) (on : Bool) (n : ℕ) → l .opened ≡ true → fault (termsOf l) s ≡ 0 → fine (laneAfter l (Unit a on n)) ≡ true
       → n ≡ cond on (l .octets) 0 + userOctets (l .settings) s → n ≤ room → Planned l s room (Sure (Unit a on n))
   holds : (a : Added) (on : Bool) (n : ℕ) → l .opened ≡ true → fault (termsOf l) s ≡ 0 → fine (laneAfter l (Hold a on n)) ≡ true
-      → n ≡ cond on (l .octets) 0 + userOctets (l .settings) s → (on ≡ true → l .grouped ≡ true) → ToHold l s
-      → Planned l s room (Ask n 19 (Hold a on n))
+      → n ≡ cond on (l .octets) 0 + userOctets (l .settings) s → (on ≡ true → l .grouped ≡ true) → Planned l s room (Ask n 27 (Hold a on n))
 
 -- ---- the lane after a packet is counted
 -- a packet that is no repeat misses at most 16,382
@@ -99,9 +92,6 @@ module _ (l : Lane) (s : List ℕ) (room : ℕ) (is : Fine l) where
   abbrev user : ℕ
   user = userOctets (l .settings) s
 
-  refused : (k : ℕ) → k ≤ 18 → Obeys (Sure (Refuse k))
-  refused k h = refuses k (omega arith) (λ e. absurd (omega arith))
-
   on-grouped : on ≡ true → l .grouped ≡ true
   unfolding goesOn
   on-grouped e = both (l .grouped) (not (breaks (missingBefore l (count s)) (flags s))) e .0
@@ -111,16 +101,16 @@ module _ (l : Lane) (s : List ℕ) (room : ℕ) (is : Fine l) where
         → fine (counted l added units grouped k) ≡ true
     after = counted-fine l (flags s) (count s) is open′ new few (omega arith)
 
-    to-hold : (on : Bool) (n : ℕ) → n ≡ cond on (l .octets) 0 + user → (on ≡ true → l .grouped ≡ true) → ToHold l s → Obeys (holdPlan (l .settings) added on n)
+    to-hold : (on : Bool) (n : ℕ) → n ≡ cond on (l .octets) 0 + user → (on ≡ true → l .grouped ≡ true) → Obeys (holdPlan (l .settings) added on n)
     unfolding holdPlan one laneAfter
-    to-hold on n is-joined grouped h =
-        of-either Obeys (ltb (l .settings .cap) (blocksFor n)) (λ e. refuses 19 (omega arith) (λ z. h))
-        (λ e. holds added on n open′ good (after 0 true n (omega arith) (ltb-false _ _ e) (λ z. absurd (true≢false z))) is-joined grouped h)
+    to-hold on n is-joined grouped =
+        of-either Obeys (ltb (l .settings .cap) (blocksFor n)) (λ e. refuses 19)
+        (λ e. holds added on n open′ good (after 0 true n (omega arith) (ltb-false _ _ e) (λ z. absurd (true≢false z))) is-joined grouped)
 
     to-end : (on : Bool) (n : ℕ) → n ≡ cond on (l .octets) 0 + user → Obeys (unitPlan room added on n)
     unfolding unitPlan one laneAfter blocksFor
     to-end on n is-joined =
-        of-either Obeys (ltb room n) (λ e. refuses 20 (omega arith) (λ z. absurd (omega arith)))
+        of-either Obeys (ltb room n) (λ e. refuses 20)
         (λ e. ends added on n open′ good (after 1 false 0 (omega arith) (omega arith) (λ z. refl)) is-joined (ltb-false _ _ e))
 
     to-stray : Obeys (Sure (Stray added))
@@ -131,10 +121,10 @@ module _ (l : Lane) (s : List ℕ) (room : ℕ) (is : Fine l) where
     unfolding groupingPlan
     grouping =
         of-either Obeys (eqb (flags s) 3) (λ e. to-end false user (sym (zero-add user)))
-        (λ e. of-either Obeys (eqb (flags s) 1) (λ f. to-hold false user (sym (zero-add user)) (λ z. absurd (true≢false (sym z))) (inl (eqb-true _ _ f)))
+        (λ e. of-either Obeys (eqb (flags s) 1) (λ f. to-hold false user (sym (zero-add user)) (λ z. absurd (true≢false (sym z))))
         (λ f. of-either Obeys (not on) (λ g. to-stray)
         (λ g. of-either Obeys (eqb (flags s) 0)
-        (λ h. to-hold true (l .octets + user) refl (λ z. on-grouped (not-false on g)) (inr (eqb-true _ _ h, not-false on g)))
+        (λ h. to-hold true (l .octets + user) refl (λ z. on-grouped (not-false on g)))
         (λ h. to-end true (l .octets + user) refl))))
 
 pub planned : (l : Lane) (s : List ℕ) (room : ℕ) → fine l ≡ true → Planned l s room (packetPlan l s room)
@@ -142,8 +132,8 @@ unfolding packetPlan acceptedPlan
 planned l s room h =
     let is : Fine l = is-fine l h in
     let P : Plan → Type 0 = Planned l s room in
-    of-either P (not (l .opened)) (λ e. refused l s room is 11 (omega arith))
-    (λ e. of-either P (not (eqb (fault (termsOf l) s) 0)) (λ f. refused l s room is (fault (termsOf l) s) (omega (arith, fault-most (termsOf l) s)))
+    of-either P (not (l .opened)) (λ e. refuses 11)
+    (λ e. of-either P (not (eqb (fault (termsOf l) s) 0)) (λ f. refuses (fault (termsOf l) s))
     (λ f. of-either P (rule.repeats l (count s)) (λ g. repeats)
-    (λ g. of-either P (leb mostPackets (l .packets)) (λ k. refused l s room is 18 (omega arith))
+    (λ g. of-either P (leb mostPackets (l .packets)) (λ k. refuses 18)
     (λ k. grouping l s room is (not-false _ e) (eqb-true _ _ (not-false _ f)) g (leb-false _ _ k)))))

@@ -19,10 +19,10 @@ use Rattle.grouping.specs.Grouping.{repeats, goesOn, addedFrom}
 abbrev pub refusing : ℕ → Plan
 refusing number = Sure (Refuse number)
 
--- a group of n octets: 19 where its blocks exceed the cap; then 19 unless there is room for the lane that holds it
+-- a group of n octets: 19 where its blocks exceed the cap; then 27 unless there is room for the lane that holds it
 unfoldable pub holdPlan : Settings → Added → Bool → ℕ → Plan
 holdPlan s t on n =
-    first (Ask n 19 (Hold t on n))
+    first (Ask n 27 (Hold t on n))
     ((ltb (s .cap) (blocksFor n) gives refusing 19) ∷ [])
 
 -- a unit of n octets: 20 where the output is shorter
@@ -42,7 +42,7 @@ groupingPlan l f c n room =
     ∷ (eqb f 0 gives holdPlan (l .settings) (addedFrom l f c) true (l .octets + n))
     ∷ [])
 
--- the repeat test, 18, then the grouping rule with 19 and 20: of flags f, count c and n octets of user data
+-- the repeat test, 18, then the grouping rule with 19, 27 and 20: of flags f, count c and n octets of user data
 unfoldable pub acceptedPlan : Lane → ℕ → ℕ → ℕ → ℕ → Plan
 acceptedPlan l f c n room =
     first (groupingPlan l f c n room)
@@ -50,7 +50,7 @@ acceptedPlan l f c n room =
     ∷ (leb mostPackets (l .packets) gives refusing 18)
     ∷ [])
 
--- Packet to a lane: 11, reading, 12, 13, 14, 15, 16, 17, the repeat test, 18, 19, 20
+-- Packet to a lane: 11, reading, 12, 13, 14, 15, 16, 17, the repeat test, 18, 19, 27, 20
 unfoldable pub packetPlan : Lane → List ℕ → ℕ → Plan
 packetPlan l s room =
     first (acceptedPlan l (flags s) (count s) (userOctets (l .settings) s) room)

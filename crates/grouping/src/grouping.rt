@@ -45,7 +45,7 @@ fn joined_octets(joins: bool, octets: u16, n: usize) -> usize
     if joins { octets as usize + n } else { n }
 }
 
-// A group of n octets is asked room for, unless it is over the cap.
+// A group of n octets is refused over the lane's own cap, and else is asked room for beside the other lanes.
 fn plan_hold(s: Settings, added: Added, joins: bool, n: usize) -> Plan
     ensures { λ r. ⌜ r ≡ holdPlan s added joins n ⌝ }
 {
@@ -54,7 +54,7 @@ fn plan_hold(s: Settings, added: Added, joins: bool, n: usize) -> Plan
     }
     Plan::Ask {
         octets: n as u16,
-        refusal: 19,
+        refusal: 27,
         step: Step::Hold {
             added,
             joins,

@@ -78,12 +78,12 @@ module _ (s : State) (eight : length (s .lanes) ≡ 8) (i : ℕ) (p : List ℕ) 
 
     ready : {d : Plan} → Planned own p room d → Ready i own (settle (s .lanes) i d) (length (userPart own p)) octets room
     unfolding settle laneAfter
-    ready (plan.refuses n few h) = tt
+    ready (plan.refuses n) = tt
     ready plan.repeats = tt
     ready (plan.strays a o f g) = (small o, g)
     ready (plan.ends a on n o f g e h) =
         ((small o, g), omega (arith, e, part-octets f), h, held-most own (good) .1)
-    ready (plan.holds a on n o f g e h t) =
+    ready (plan.holds a on n o f g e h) =
         of-either (λ (d : Step). Ready i own d (length (userPart own p)) octets room) (within (set (s .lanes) i (holding own n)))
         (λ r. ((small o, g), omega (arith, e, part-octets f), held-most (laneAfter own (step.Hold a on n)) g .1, held-most own (good) .1, then-sound s octets passed .1))
         (λ r. tt)
@@ -92,20 +92,20 @@ module _ (s : State) (eight : length (s .lanes) ≡ 8) (i : ℕ) (p : List ℕ) 
     same-pool : {d : Plan} (pool : List ℕ) → Planned own p room d
         → poolAfter (s .marks) i own (settle (s .lanes) i d) (userPart own p) pool ≡ poolAfter (s .marks) i own (settle (s .lanes) i d) (userOf s i p) pool
     unfolding settle poolAfter
-    same-pool pool (plan.refuses n few h) = refl
+    same-pool pool (plan.refuses n) = refl
     same-pool pool plan.repeats = refl
     same-pool pool (plan.strays a o f g) = refl
     same-pool pool (plan.ends a on n o f g e h) = refl
-    same-pool pool (plan.holds a on n o f g e h t) = rw (part-is f)
+    same-pool pool (plan.holds a on n o f g e h) = rw (part-is f)
 
     same-out : {d : Plan} (pool out : List ℕ) → Planned own p room d
         → outAfter (s .marks) i own (settle (s .lanes) i d) (userPart own p) pool out ≡ outAfter (s .marks) i own (settle (s .lanes) i d) (userOf s i p) pool out
     unfolding settle outAfter
-    same-out pool out (plan.refuses n few h) = refl
+    same-out pool out (plan.refuses n) = refl
     same-out pool out plan.repeats = refl
     same-out pool out (plan.strays a o f g) = refl
     same-out pool out (plan.ends a on n o f g e h) = rw (part-is f)
-    same-out pool out (plan.holds a on n o f g e h t) =
+    same-out pool out (plan.holds a on n o f g e h) =
         of-either (λ (d : Step). outAfter (s .marks) i own d (userPart own p) pool out ≡ outAfter (s .marks) i own d (userOf s i p) pool out)
         (within (set (s .lanes) i (holding own n))) (λ r. refl) (λ r. refl)
 

@@ -58,7 +58,7 @@ unfoldable pub settle : List Lane → ℕ → Plan → Step
 settle lanes i (Sure step) = step
 settle lanes i (Ask n refusal step) = cond (within (set lanes i (holding (getD lanes i closed) n))) step (Refuse refusal)
 
--- Packet to a lane: 24, 11, reading, 12, 13, 14, 15, 16, 17, the repeat test, 18, 19, 20
+-- Packet to a lane: 24, 11, reading, 12, 13, 14, 15, 16, 17, the repeat test, 18, 19, 27, 20
 unfoldable pub packetStep : State → ℕ → List ℕ → ℕ → ℕ → Step
 packetStep s i packet size room =
     first (settle (s .lanes) i (packetPlan (laneAt s i) packet room))

@@ -151,7 +151,7 @@ module _ (s : Settings) (ps : List Taken) (small : lastCount ps < counts) (p out
       holds e f =
           of-either Plans (ltb (s .cap) (blocksFor n)) (λ t ls at. refuses 19 (λ z. omega arith))
           (λ t ls at. of-either Does (within (set ls at (holding (getD ls at closed) n)))
-          (λ r. word (Hold (added ps q) on n) none (some (whole on)) e f refl refl refl) (λ r. refuses 19 (λ z. omega arith)))
+          (λ r. word (Hold (added ps q) on n) none (some (whole on)) e f refl refl refl) (λ r. refuses 27 (λ z. omega arith)))
 
       ends : some (whole on) ≡ unit ps q → none ≡ group (q ∷ ps) → Plans (unitPlan (length out) (added ps q) on n)
       unfolding unitPlan settle laneAfter one

@@ -75,9 +75,22 @@ module _ (ls : List Lane) (i : ℕ) where
   pub share-fits : getD ls i closed .opened ≡ true → (n : ℕ) → blocksFor n ≤ getD ls i closed .settings .share → within ls ≡ true → within (set ls i (holding (getD ls i closed) n)) ≡ true
   share-fits o n h = smaller (holding (getD ls i closed) n) (omega (arith, h, need-open (getD ls i closed) o, need-open (holding (getD ls i closed) n) o))
 
-  -- a lane beside none may hold every block
+  -- a lane beside none that is open may hold every block
   pub alone-fits : others ls i ≡ 0 → i < length ls → (l : Lane) → need l ≤ blocks → within (set ls i l) ≡ true
   alone-fits none k l h = by-sum (set ls i l) (omega (arith, none, h, total-set ls i l k))
+
+-- lanes that are closed, or all but one of them
+none-open : (ls : List Lane) → ((j : ℕ) → j < length ls → getD ls j closed ≡ closed) → total ls ≡ 0
+unfolding total
+none-open [] shut = refl
+none-open (l ∷ ls) shut = omega (arith, ap need (shut 0 (omega arith)), need-closed, none-open ls (λ j h. shut (suc j) (omega arith)))
+
+pub none-beside : (ls : List Lane) (i : ℕ) → ((j : ℕ) → j < length ls → (j ≡ i → ⊥) → getD ls j closed ≡ closed) → others ls i ≡ 0
+unfolding others total
+none-beside [] i shut = refl
+none-beside (l ∷ ls) zero shut = omega (arith, need-closed, none-open ls (λ j h. shut (suc j) (omega arith) (λ z. omega arith)))
+none-beside (l ∷ ls) (suc i) shut =
+    omega (arith, ap need (shut 0 (omega arith) (λ z. omega arith)), need-closed, none-beside ls i (λ j h d. shut (suc j) (omega arith) (λ z. d (omega arith))))
 
 -- ---- as the code asks it: by the sum, in which one lane's part is exchanged
 pub is-within : (ls : List Lane) (n : ℕ) → n ≡ total ls → (b : Bool) → b ≡ leb n blocks → b ≡ within ls

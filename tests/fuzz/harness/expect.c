@@ -126,15 +126,17 @@ static uint8_t kind_of(uint32_t flags, bool grouped)
     return flags == BRANMUSLIN_LAST ? BRANMUSLIN_UNIT : BRANMUSLIN_HELD;
 }
 
-/* The order is 18, 19, 20. */
+/* The order is 18, 19, 27, 20. */
 static uint8_t expected_limit(const state *s, size_t lane, const struct expected *e, size_t space)
 {
     const lane_state *const l = &s->lanes[lane];
     const size_t blocks = e->kind == BRANMUSLIN_HELD ? blocks_for(e->group + e->data_length) : 0;
     if (l->packets == BRANMUSLIN_MOST_PACKETS)
         return 18;
-    if (blocks > l->settings.cap || has(l, blocks) + others_have(s, lane) > BRANMUSLIN_BLOCKS)
+    if (blocks > l->settings.cap)
         return 19;
+    if (has(l, blocks) + others_have(s, lane) > BRANMUSLIN_BLOCKS)
+        return 27;
     return e->unit > space ? 20 : 0;
 }
 

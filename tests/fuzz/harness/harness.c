@@ -24,11 +24,11 @@ static const struct {
     [FRESH_START] = {"branmuslin_fresh_start", ONE(0)},
     [IS_SOUND] = {"branmuslin_is_sound", ONE(0) | ONE(24)},
     [OPEN_LANE] = {"branmuslin_open_lane", ONE(0) | ONE(11) | FROM_TO(21, 24)},
-    [TAKE_PACKET] = {"branmuslin_take_packet", FROM_TO(0, 7) | FROM_TO(11, 20) | ONE(24)},
+    [TAKE_PACKET] = {"branmuslin_take_packet", FROM_TO(0, 7) | FROM_TO(11, 20) | ONE(24) | ONE(27)},
     [CLOSE_LANE] = {"branmuslin_close_lane", ONE(0) | ONE(9) | ONE(11) | ONE(24)},
 };
 
-#define NUMBERS 27
+#define NUMBERS 28
 
 /* libFuzzer reads this section as coverage, and clears it before each input. */
 __attribute__((section("__libfuzzer_extra_counters"))) static uint8_t counters[FUNCTIONS * NUMBERS + NOTICES];

@@ -100,7 +100,7 @@ mod tests {
         assert_eq!(starting("write encap "), 6 + 15);
         assert_eq!(starting("write space "), 16);
         assert_eq!(starting("write record "), 16);
-        assert_eq!(starting("fresh "), 7 + 27);
+        assert_eq!(starting("fresh "), 8 + 27);
         assert_eq!(starting("sound: sound"), 9);
         assert_eq!(starting("sound: unsound"), 18);
         assert_eq!(packets().len(), 15 + 3);

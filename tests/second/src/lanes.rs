@@ -71,10 +71,9 @@ impl Lanes {
         self.open_lanes().map(Lane::blocks_promised).sum()
     }
 
-    /// The most blocks that this open lane could come to hold now.
-    pub fn blocks_within_reach(&self, lane: &Lane) -> usize {
-        let others = self.blocks_promised() - lane.blocks_promised();
-        (BLOCKS - others).min(lane.settings.cap.into())
+    /// The same over all open lanes but this one.
+    pub fn blocks_promised_beside(&self, lane: &Lane) -> usize {
+        self.blocks_promised() - lane.blocks_promised()
     }
 
     /// Each lane keeps of its packets only the sums.

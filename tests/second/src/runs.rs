@@ -8,6 +8,7 @@ mod longest;
 mod maker;
 pub mod met;
 mod moves;
+mod no_room;
 mod settings;
 mod situations;
 mod talk;
@@ -38,7 +39,7 @@ const fn family(name: &'static str, place: u64, number: u64, make: fn(u64) -> Ve
     }
 }
 
-const FAMILIES: [Family; 14] = [
+const FAMILIES: [Family; 15] = [
     family("talk", 1, 900, talk::talk),
     family("counts", 2, 200, talk::counts),
     family("empty user data", 3, 150, talk::empty_data),
@@ -46,6 +47,7 @@ const FAMILIES: [Family; 14] = [
     family("wrong packets", 5, 300, talk::wrong_packets),
     family("crowd", 6, 250, crowd::crowd),
     family("full house", 14, 150, crowd::full_house),
+    family("no room", 15, 100, no_room::no_room),
     family("cut everywhere", 7, ends::PLACES, ends::cut_everywhere),
     family("cut by chance", 8, 150, ends::cut_by_chance),
     family("bad first octet", 9, 100, ends::bad_first_octet),

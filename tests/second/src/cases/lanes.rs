@@ -214,6 +214,29 @@ mod tests {
     }
 
     #[test]
+    fn over_the_cap_and_over_the_pool() {
+        let lines = [
+            "open 0 1 42 0 63 63",
+            "open 1 2 43 0 1 2",
+            "packet 1 0 43 1 0 513",
+            "packet 1 0 43 1 0 257",
+            "close 0 20",
+            "packet 1 0 43 1 0 513",
+            "packet 1 0 43 1 0 257",
+        ];
+        let expected = [
+            "ok",
+            "ok",
+            "refused 19",
+            "refused 27",
+            "record 1 42 0 0 0 0",
+            "refused 19",
+            "held 0 0",
+        ];
+        assert_eq!(answers(&lines), expected);
+    }
+
+    #[test]
     fn a_unit_and_what_lies_in_the_output() {
         let lines = [
             "open 0 7 42 0 0 0",

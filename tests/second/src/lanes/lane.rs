@@ -133,7 +133,12 @@ impl Lane {
 
     /// The blocks that no other lane may have: those held, or the share.
     pub fn blocks_promised(&self) -> usize {
-        self.blocks_held().max(self.settings.share.into())
+        self.blocks_promised_with(self.blocks_held())
+    }
+
+    /// The same if the lane held so many, whatever it holds now.
+    pub fn blocks_promised_with(&self, held: usize) -> usize {
+        held.max(self.settings.share.into())
     }
 
     /// The record if the lane were closed now, when an open group breaks too.

@@ -58,7 +58,7 @@ impl Outcome {
         Outcome { step, becomes }
     }
 
-    /// Only a packet that is held needs blocks.
+    /// The blocks that the lane would hold. Only a packet that is held needs any.
     fn blocks(&self) -> usize {
         match self.becomes {
             Becomes::Held { octets } => blocks_for(octets),
@@ -91,9 +91,12 @@ impl Lanes {
             return Ok(Answer::Repeat);
         }
         let outcome = Outcome::of(open, &packet, user_data);
+        let blocks = outcome.blocks();
+        let promised = open.blocks_promised_with(blocks) + self.blocks_promised_beside(open);
         first_ground(&[
             (18, open.packets() >= MOST_PACKETS),
-            (19, !self.has_room(open, outcome.blocks())),
+            (19, blocks > open.settings.cap.into()),
+            (27, promised > BLOCKS),
             (20, outcome.output_octets() > output.len()),
         ])?;
         self.note(lane, packet.count, &outcome);
@@ -109,13 +112,6 @@ impl Lanes {
                 Answer::Unit(outcome.step, unit.len())
             }
         })
-    }
-
-    /// Whether the lane may hold so many blocks, whatever it holds now.
-    fn has_room(&self, lane: &Lane, blocks: usize) -> bool {
-        let others = self.blocks_promised() - lane.blocks_promised();
-        let share = usize::from(lane.settings.share);
-        blocks <= usize::from(lane.settings.cap) && blocks.max(share) + others <= BLOCKS
     }
 
     fn open_lane(&mut self, lane: u8) -> &mut Lane {

@@ -1,5 +1,6 @@
 use super::*;
 use crate::forge::SpaceHead;
+use crate::record::MOST_PACKETS;
 
 /// Lanes with their pool, and an output of which a call uses what it is given.
 struct Desk {
@@ -121,24 +122,111 @@ fn lanes_of_the_papers_case() {
         desk.plain(1, 1, 0, &[9; 44 * 256]),
         Ok(Answer::Held(kept(0)))
     );
-    assert_eq!(desk.plain(1, 0, 1, &[9]), Err(Refusal(19)));
+    assert_eq!(desk.plain(1, 0, 1, &[9]), Err(Refusal(27)));
     assert_eq!(
         desk.plain(0, 1, 0, &[8; 20 * 256]),
         Ok(Answer::Held(kept(0)))
     );
-    assert_eq!(desk.plain(0, 0, 1, &[8]), Err(Refusal(19)));
+    assert_eq!(desk.plain(0, 0, 1, &[8]), Err(Refusal(27)));
     assert_eq!(desk.lanes.blocks_held().len(), 64);
+}
+
+/// Lane 0, whose cap is 2, finds one block beside the share of lane 1.
+fn one_block_left() -> Desk {
+    desk().opened(0, [0, 1, 2]).opened(1, [0, 63, 63])
+}
+
+#[test]
+fn over_the_cap_and_over_the_pool() {
+    let mut desk = one_block_left();
+    assert_eq!(desk.plain(0, 1, 0, &[1; 257]), Err(Refusal(27)));
+    // Three blocks are too many for the cap and for the pool: the cap is told.
+    assert_eq!(desk.plain(0, 1, 0, &[1; 513]), Err(Refusal(19)));
+    desk.closes(1, [0; 4]);
+    // That the other lane is gone helps only against the second cause.
+    assert_eq!(desk.plain(0, 1, 0, &[1; 513]), Err(Refusal(19)));
+    assert_eq!(desk.plain(0, 1, 0, &[1; 257]), Ok(Answer::Held(kept(0))));
+    desk.closes(0, [0, 1, 0, 1]);
+}
+
+#[test]
+fn blocks_beyond_a_share_are_in_the_way_while_they_are_held() {
+    let mut desk = desk().opened(0, [0, 0, 64]).opened(1, [0, 1, 64]);
+    assert_eq!(desk.plain(1, 1, 0, &[1; 257]), Ok(Answer::Held(kept(0))));
+    let long = [2; 63 * 256];
+    assert_eq!(desk.plain(0, 1, 9, &long), Err(Refusal(27)));
+    assert_eq!(desk.plain(1, 2, 1, &[1]), Ok(Answer::Unit(kept(0), 258)));
+    assert_eq!(desk.plain(0, 1, 9, &long), Ok(Answer::Held(kept(0))));
+    // The group that is to be given up isn't in its own lane's way.
+    assert_eq!(desk.plain(0, 1, 10, &long), Ok(Answer::Held(gave_up(0))));
+}
+
+#[test]
+fn alone_in_the_pool_only_the_cap_is_told() {
+    let mut desk = desk().opened(0, [0, 0, 64]);
+    assert_eq!(desk.plain(0, 1, 0, &[1; 64 * 256 + 1]), Err(Refusal(19)));
+    assert_eq!(
+        desk.plain(0, 1, 0, &[1; 64 * 256]),
+        Ok(Answer::Held(kept(0)))
+    );
+    assert_eq!(desk.plain(0, 0, 1, &[1]), Err(Refusal(19)));
+}
+
+#[test]
+fn only_what_would_be_held_can_lack_room() {
+    let mut desk = one_block_left();
+    let long = [1; 600];
+    assert_eq!(desk.plain(0, 3, 0, &long), Ok(Answer::Unit(kept(0), 600)));
+    assert_eq!(desk.plain(0, 0, 1, &long), Ok(Answer::Stray(kept(0))));
+    assert_eq!(desk.plain(0, 2, 2, &long), Ok(Answer::Stray(kept(0))));
+    assert_eq!(desk.plain(0, 1, 3, &[1]), Ok(Answer::Held(kept(0))));
+    assert_eq!(desk.plain(0, 0, 5, &long), Ok(Answer::Stray(gave_up(1))));
+    assert_eq!(desk.plain(0, 1, 6, &[1]), Ok(Answer::Held(kept(0))));
+    assert_eq!(desk.plain(0, 2, 7, &long), Ok(Answer::Unit(kept(0), 601)));
+}
+
+#[test]
+fn no_room_in_the_order_of_refusals() {
+    let mut desk = one_block_left();
+    let first = |apid, count, data: &[u8]| SpaceHead::new([0, 0, apid, 1, count]).with(data);
+    assert_eq!(desk.send(&first(41, 0, &[1; 257]), 0), Err(Refusal(15)));
+    assert_eq!(desk.send(&first(42, 0, &[1; 257]), 0), Err(Refusal(27)));
+    assert_eq!(
+        desk.send(&first(42, 0, &[1; 256]), 0),
+        Ok(Answer::Held(kept(0)))
+    );
+    assert_eq!(desk.send(&first(42, 0, &[1; 257]), 0), Ok(Answer::Repeat));
+    assert_eq!(desk.send(&first(42, 0, &[1; 513]), 0), Ok(Answer::Repeat));
+}
+
+#[test]
+fn a_full_lane_is_full_before_it_lacks_room() {
+    let past = Past {
+        packets: MOST_PACKETS,
+        last: 9,
+        ..Past::default()
+    };
+    let full = Lane::taken_over(Settings::new(7, 42, [0, 1, 2]), past, None);
+    let other = Lane::new(Settings::new(7, 42, [0, 63, 63]));
+    let lanes = Lanes::taken_over([(0, full), (1, other)].into_iter());
+    let mut desk = Desk { lanes, ..desk() };
+    assert_eq!(desk.plain(0, 1, 10, &[1; 257]), Err(Refusal(18)));
+    assert_eq!(desk.plain(0, 1, 10, &[1; 513]), Err(Refusal(18)));
+    assert_eq!(desk.plain(0, 1, 9, &[1; 257]), Ok(Answer::Repeat));
 }
 
 #[test]
 fn without_room_the_old_group_stays() {
-    let mut desk = desk().opened(0, [0, 0, 1]);
-    assert_eq!(desk.plain(0, 1, 0, &[1; 256]), Ok(Answer::Held(kept(0))));
-    let before = desk.pool.clone();
-    assert_eq!(desk.plain(0, 1, 7, &[2; 257]), Err(Refusal(19)));
-    assert_eq!(desk.pool, before);
-    assert_eq!(desk.plain(0, 2, 1, &[3]), Ok(Answer::Unit(kept(0), 257)));
-    desk.closes(0, [1, 2, 0, 0]);
+    let alone = desk().opened(0, [0, 0, 1]);
+    for (mut desk, number) in [(alone, 19), (one_block_left(), 27)] {
+        assert_eq!(desk.plain(0, 1, 0, &[1; 256]), Ok(Answer::Held(kept(0))));
+        let before = desk.pool.clone();
+        assert_eq!(desk.plain(0, 1, 7, &[2; 257]), Err(Refusal(number)));
+        assert_eq!(desk.plain(0, 0, 1, &[2]), Err(Refusal(number)));
+        assert_eq!(desk.pool, before);
+        assert_eq!(desk.plain(0, 2, 1, &[3]), Ok(Answer::Unit(kept(0), 257)));
+        desk.closes(0, [1, 2, 0, 0]);
+    }
 }
 
 #[test]

@@ -100,12 +100,12 @@ fn take(maker: &mut Maker, lane: u8, turn: Turn) -> Told {
     match turn {
         Turn::Grow => send(maker, lane, [grows, next], octets),
         Turn::Fill => {
-            let octets = up_to_the_reach(maker, view.reach, view.carried(grows));
+            let octets = up_to_the_reach(maker, view.reach(), view.carried(grows));
             send(maker, lane, [grows, next], octets)
         }
         Turn::End => send(maker, lane, [2, next], octets % 300),
         Turn::Replace => {
-            let whole = up_to_the_reach(maker, view.reach, 0);
+            let whole = up_to_the_reach(maker, view.reach(), 0);
             let octets = maker.random.pick(&[octets, octets, whole]);
             send(maker, lane, [1, next], octets)
         }

@@ -20,7 +20,7 @@ const SELDOM: [(&str, usize); 4] = [
 /// What no run can meet: 18 needs 262,144 packets and a run file has no room
 /// for 62,000; 24 and 25 need a state that is not sound or another pool, and
 /// calls from a fresh start lead to neither.
-const PACKET_REFUSALS: [u8; 16] = [1, 2, 3, 4, 5, 6, 7, 11, 12, 13, 14, 15, 16, 17, 19, 20];
+const PACKET_REFUSALS: [u8; 17] = [1, 2, 3, 4, 5, 6, 7, 11, 12, 13, 14, 15, 16, 17, 19, 20, 27];
 
 #[derive(Default)]
 pub struct Met {

@@ -45,13 +45,19 @@ pub fn packet(maker: &mut Maker, lane: u8, most: usize) -> Told {
 }
 
 pub fn send(maker: &mut Maker, lane: u8, draft: &Draft) -> Told {
+    let call = laid(maker, lane, draft);
+    maker.call(&call)
+}
+
+/// The call that sends a packet, to be made at once or more than once.
+pub fn laid(maker: &mut Maker, lane: u8, draft: &Draft) -> Call {
     let octets = draft.head.with(&maker.random.octets(draft.data));
     let space = draft.space;
-    maker.call(&Call::Packet {
+    Call::Packet {
         lane,
         space,
         octets,
-    })
+    }
 }
 
 /// A packet with at most so many octets of user data that nearly always comes
@@ -136,7 +142,8 @@ fn user_octets(random: &mut Random, view: &View, flags: u32, most: usize) -> usi
         1..=5 => few,
         6 => random.between(0, most),
         turn => {
-            let about = [block_ends, block_ends, view.share, view.reach, view.reach];
+            let reach = view.reach();
+            let about = [block_ends, block_ends, view.share, reach, reach];
             let end = about[turn as usize - 7] + random.between(0, 2);
             end.saturating_sub(view.carried(flags) + 1)
         }

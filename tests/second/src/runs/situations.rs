@@ -7,9 +7,10 @@ use crate::reader::{read, Packet, Space};
 use crate::record::RECORD_OCTETS;
 use crate::replay::{Told, LONGEST_RUN, MOST_SPACE};
 use crate::run_file::Call;
+use std::collections::BTreeMap;
 
 /// In the order in which they are printed.
-pub const NAMES: [&str; 52] = [
+pub const NAMES: [&str; 59] = [
     "open: eight lanes then",
     "open: station and APID of another lane",
     "open: secondary length 0",
@@ -25,9 +26,15 @@ pub const NAMES: [&str; 52] = [
     "packet: refused 11 over 7",
     "packet: refused 11 not open",
     "packet: refused 19 with cap 0",
-    "packet: refused 19 at the cap",
-    "packet: refused 19 below the cap",
+    "packet: refused 19 for one block",
     "packet: refused 19, an older group stays",
+    "packet: refused 19, no other lane open",
+    "packet: refused 19, the others in the way too",
+    "packet: refused 27 below the cap",
+    "packet: refused 27 at the cap",
+    "packet: refused 27 for one block",
+    "packet: refused 27, an older group stays",
+    "packet: refused 27, enough blocks free",
     "packet: refused 20 for one octet",
     "packet: refused 20 with space 0",
     "packet: no octets",
@@ -48,6 +55,7 @@ pub const NAMES: [&str; 52] = [
     "packet: held, a later block below an earlier",
     "packet: held, all 64 blocks then",
     "packet: held, all 64 blocks again",
+    "packet: held, refused 27 before",
     "packet: unit, exact space",
     "packet: unit, space 4294967295",
     "packet: unit, space over 131072",
@@ -72,6 +80,8 @@ pub struct Past {
     /// Whether all blocks were held once, and whether some were free since.
     was_full: bool,
     freed: bool,
+    /// Of each open lane the last packet that was refused 27.
+    kept_out: BTreeMap<u8, Vec<u8>>,
 }
 
 impl Past {
@@ -81,6 +91,7 @@ impl Past {
         let full = lanes.blocks_held().len() == BLOCKS;
         self.freed = self.was_full && (self.freed || !full);
         self.was_full |= full;
+        self.kept_out.retain(|lane, _| lanes.lane(*lane).is_some());
     }
 }
 
@@ -103,9 +114,11 @@ pub fn after(met: &mut Met, call: &Call, told: &Told, lanes: &Lanes) {
             let not_open = *told == Told::Refused(11);
             met.add_if("packet: refused 11 over 7", not_open && *lane >= LANES);
             met.add_if("packet: refused 11 not open", not_open && *lane < LANES);
+            kept_out(met, *lane, octets, told);
             if let (Some(open), Ok(Packet::Space(packet))) = (lanes.lane(*lane), read(octets)) {
                 let sent = Sent::new(open, &packet, *space);
-                sent.refused(met, told);
+                sent.no_room(met, told, lanes);
+                sent.no_space(met, told);
                 sent.accepted(met, told);
                 sent.held(met, told, lanes);
                 sent.unit(met, told);
@@ -151,6 +164,17 @@ fn closing(met: &mut Met, lane: u8, space: u32, told: &Told) {
     met.add_if("close: space 20", closed && space as usize == RECORD_OCTETS);
 }
 
+/// Whether a packet that the other lanes kept out is held when it comes again.
+fn kept_out(met: &mut Met, lane: u8, octets: &[u8], told: &Told) {
+    let before = met.past.kept_out.get(&lane);
+    let again = before.is_some_and(|before| before == octets);
+    let held = matches!(told, Told::Held(_));
+    met.add_if("packet: held, refused 27 before", held && again);
+    if *told == Told::Refused(27) {
+        met.past.kept_out.insert(lane, octets.to_vec());
+    }
+}
+
 /// A packet sent to an open lane, and the lane after it.
 struct Sent<'a> {
     lane: &'a Lane,
@@ -184,16 +208,34 @@ impl<'a> Sent<'a> {
         }
     }
 
-    fn refused(&self, met: &mut Met, told: &Told) {
+    fn no_room(&self, met: &mut Met, told: &Told, lanes: &Lanes) {
         let cap = usize::from(self.lane.settings.cap);
+        let wanted = blocks_for(self.together());
+        let stays = self.packet.flags == 1 && self.lane.group.is_some();
+        // A lane that lacks room wants more than its share.
+        let promised = wanted + lanes.blocks_promised_beside(self.lane);
         if *told == Told::Refused(19) {
-            let wanted = blocks_for(self.together());
-            let stays = self.packet.flags == 1 && self.lane.group.is_some();
+            let alone = lanes.open_lanes().count() == 1;
+            // Wanting more than the pool has is too much without others.
+            let others_too = wanted <= BLOCKS && promised > BLOCKS;
             met.add_if("packet: refused 19 with cap 0", cap == 0);
-            met.add_if("packet: refused 19 at the cap", wanted == cap + 1);
-            met.add_if("packet: refused 19 below the cap", wanted <= cap);
+            met.add_if("packet: refused 19 for one block", wanted == cap + 1);
             met.add_if("packet: refused 19, an older group stays", stays);
+            met.add_if("packet: refused 19, no other lane open", alone);
+            met.add_if("packet: refused 19, the others in the way too", others_too);
         }
+        if *told == Told::Refused(27) {
+            let held_beside = lanes.blocks_held().len() - self.lane.blocks_held();
+            let free = wanted + held_beside <= BLOCKS;
+            met.add_if("packet: refused 27 below the cap", wanted < cap);
+            met.add_if("packet: refused 27 at the cap", wanted == cap);
+            met.add_if("packet: refused 27 for one block", promised == BLOCKS + 1);
+            met.add_if("packet: refused 27, an older group stays", stays);
+            met.add_if("packet: refused 27, enough blocks free", free);
+        }
+    }
+
+    fn no_space(&self, met: &mut Met, told: &Told) {
         if *told == Told::Refused(20) {
             let one_short = self.space + 1 == self.together();
             let longest = one_short && self.together() == LONGEST_UNIT;

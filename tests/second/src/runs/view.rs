@@ -1,7 +1,7 @@
 //! What there is to know of a lane when the next packet for it is chosen.
 
 use super::maker::Maker;
-use crate::lanes::{blocks_for, Lane, BLOCK_OCTETS};
+use crate::lanes::{blocks_for, Lane, BLOCKS, BLOCK_OCTETS};
 
 #[derive(Debug, Clone, Copy, Default)]
 pub struct View {
@@ -10,9 +10,11 @@ pub struct View {
     pub last: Option<u32>,
     /// The octets of the open group, if there is one.
     pub group: Option<usize>,
+    /// In octets, as are the next two.
     pub share: usize,
-    /// The most octets that the lane's group could come to.
-    pub reach: usize,
+    pub cap: usize,
+    /// What the other lanes leave to this one.
+    pub left: usize,
 }
 
 impl View {
@@ -24,14 +26,21 @@ impl View {
                 ..View::default()
             };
         };
+        let left = BLOCKS - maker.lanes().blocks_promised_beside(open);
         View {
             apid: open.settings.apid.into(),
             secondary: open.settings.secondary.into(),
             last: open.last(),
             group: octets_of_group(open),
             share: usize::from(open.settings.share) * BLOCK_OCTETS,
-            reach: maker.lanes().blocks_within_reach(open) * BLOCK_OCTETS,
+            cap: usize::from(open.settings.cap) * BLOCK_OCTETS,
+            left: left * BLOCK_OCTETS,
         }
+    }
+
+    /// The most octets that the lane's group could come to.
+    pub fn reach(&self) -> usize {
+        self.cap.min(self.left)
     }
 
     /// The octets that a packet with these flags is added to, if it comes

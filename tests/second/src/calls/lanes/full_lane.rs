@@ -13,13 +13,21 @@ pub const PACKETS: &str = "packets to a lane until it was full";
 const LANE: usize = 6;
 const APID: u32 = 1_365;
 
+/// Its share leaves the lane one block.
+const OTHER_LANE: usize = 2;
+
 /// Each of these is asked when the lane is full, often enough to count.
 const TIMES: u32 = 60;
 
 pub fn fill(checker: &mut Checker<'_>) -> Result<(), String> {
     let mut play = Play::begin(checker, 31)?;
-    let settings = Settings::new(65_535, APID as u16, [0, 0, 1]);
+    let settings = Settings::new(65_535, APID as u16, [0, 0, 2]);
     play.make(&call(Deed::Open(settings), 0))?;
+    let other = call(Deed::Open(Settings::new(7, 42, [0, 63, 63])), 0);
+    play.make(&LaneCall {
+        lane: OTHER_LANE,
+        ..other
+    })?;
     let mut count = 16_000;
     for packet in 0..MOST_PACKETS {
         // Now and then packets are missing, and a group is open at the end.
@@ -38,13 +46,13 @@ pub fn fill(checker: &mut Checker<'_>) -> Result<(), String> {
     when_full(&mut play, count)
 }
 
-/// The last packet is still a repeat. Any other is refused 18, also one for
-/// which there is no room or no output, and the lane can be closed.
+/// The last packet is still a repeat. Any other is refused 18, also one that
+/// would be over the cap or the pool or lack output, and the lane can be closed.
 fn when_full(play: &mut Play<'_, '_>, last: u32) -> Result<(), String> {
     for step in 1..=TIMES {
         let (kind, refusal) = send(play, 3, last, 0)?;
         assert_eq!((kind, refusal), (REPEAT, 0));
-        for (flags, octets) in [(3, 1), (3, 9), (1, 257), (0, 300), (2, 1)] {
+        for (flags, octets) in [(3, 1), (3, 9), (1, 513), (1, 257), (0, 300), (2, 1)] {
             let count = (last + step) % COUNTS;
             let head = SpaceHead::new([0, 0, APID, flags, count]);
             let octets = head.with(&play.random.octets(octets));

@@ -17,10 +17,14 @@ fn taking(take_packet: TakePacket) -> Library {
     }
 }
 
-/// A `take_packet` that hands own's answer to a function that spoils it, with
-/// the state and lane before it, and with the packet, the pool and the output.
-macro_rules! spoiled {
-    ($name:ident, $spoil:expr) => {
+/// Own's answer to a packet that was sent to a lane, with a state, a pool and
+/// an output.
+type Take<'a> = &'a dyn Fn(StateNumbers, &mut [u8], &mut [u8]) -> AnswerNumbers;
+
+/// A `take_packet` that is a function of own's, and of the state, the lane, the
+/// pool and the output.
+macro_rules! made_of_own {
+    ($name:ident, $make:expr) => {
         unsafe extern "C" fn $name(
             state: StateNumbers,
             lane: usize,
@@ -31,21 +35,35 @@ macro_rules! spoiled {
             output: *mut u8,
             room: usize,
         ) -> AnswerNumbers {
-            let answer = own::take_packet(
-                state,
-                lane,
-                packet,
-                packet_length,
-                pool,
-                pool_length,
-                output,
-                room,
-            );
+            let take = |state, pool: &mut [u8], output: &mut [u8]| {
+                own::take_packet(
+                    state,
+                    lane,
+                    packet,
+                    packet_length,
+                    pool.as_mut_ptr(),
+                    pool.len(),
+                    output.as_mut_ptr(),
+                    output.len(),
+                )
+            };
             let pool = slice::from_raw_parts_mut(pool, pool_length);
             let output = slice::from_raw_parts_mut(output, room);
+            let make: fn(Take<'_>, StateNumbers, usize, &mut [u8], &mut [u8]) -> _ = $make;
+            make(&take, state, lane, pool, output)
+        }
+    };
+}
+
+/// A `take_packet` that hands own's answer to a function that spoils it, with
+/// the state and lane before it, and with the pool and the output.
+macro_rules! spoiled {
+    ($name:ident, $spoil:expr) => {
+        made_of_own!($name, |take, state, lane, pool, output| {
+            let answer = take(state, pool, output);
             let spoil: fn(&StateNumbers, usize, AnswerNumbers, &mut [u8], &mut [u8]) -> _ = $spoil;
             spoil(&state, lane, answer, pool, output)
-        }
+        });
     };
 }
 
@@ -91,9 +109,10 @@ fn a_refusal_that_forgets_the_state() {
     found(runs, taking(starts_anew), &words);
 }
 
-spoiled!(frees_and_then_refuses, |before, lane, mut answer, _, _| {
-    if answer.refusal == 19 && before.lanes[lane].grouped == 1 {
-        let numbers = &mut answer.state.lanes[lane];
+/// A refusal, with the lane's old group given up all the same.
+fn freed(mut answer: AnswerNumbers, lane: usize) -> AnswerNumbers {
+    let numbers = &mut answer.state.lanes[lane];
+    if numbers.grouped == 1 {
         (numbers.grouped, numbers.octets) = (0, 0);
         numbers.broken += 1;
         let own = |mark: &&mut u16| usize::from(**mark) / BLOCKS == lane;
@@ -101,12 +120,70 @@ spoiled!(frees_and_then_refuses, |before, lane, mut answer, _, _| {
         marks.for_each(|mark| *mark = FREE);
     }
     answer
+}
+
+spoiled!(frees_and_refuses_19, |_, lane, answer, _, _| {
+    match answer.refusal {
+        19 => freed(answer, lane),
+        _ => answer,
+    }
+});
+
+spoiled!(frees_and_refuses_27, |_, lane, answer, _, _| {
+    match answer.refusal {
+        27 => freed(answer, lane),
+        _ => answer,
+    }
 });
 
 #[test]
 fn an_old_group_freed_and_the_new_one_refused() {
     let words = ["take_packet\n", "grouped: 1, ", "got ", "grouped: 0, "];
-    found(runs, taking(frees_and_then_refuses), &words);
+    found(runs, taking(frees_and_refuses_19), &words);
+    found(runs, taking(frees_and_refuses_27), &words);
+}
+
+spoiled!(blames_the_cap_alone, |before, _, answer, _, _| {
+    match answer.refusal {
+        27 => AnswerNumbers::refused(19, before),
+        _ => answer,
+    }
+});
+
+spoiled!(blames_the_others_alone, |before, _, answer, _, _| {
+    match answer.refusal {
+        19 => AnswerNumbers::refused(27, before),
+        _ => answer,
+    }
+});
+
+// Over its cap, the lane is asked about as if that were the whole pool: where
+// there is no room all the same, the sum alone is told.
+made_of_own!(tests_the_sum_first, |take, state, lane, pool, output| {
+    let answer = take(state, pool, output);
+    if answer.refusal != 19 {
+        return answer;
+    }
+    let mut uncapped = state;
+    uncapped.lanes[lane].settings.cap = BLOCKS as u8;
+    match take(uncapped, &mut pool.to_vec(), &mut output.to_vec()).refusal {
+        0 => answer,
+        _ => AnswerNumbers::refused(27, &state),
+    }
+});
+
+#[test]
+fn no_room_under_the_wrong_number() {
+    let over_cap = "expected [19, 0, 0, 0, 0], got [27, ";
+    let over_pool = "expected [27, 0, 0, 0, 0], got [19, ";
+    let wrong = [
+        (blames_the_cap_alone as _, over_pool),
+        (blames_the_others_alone as _, over_cap),
+        (tests_the_sum_first as _, over_cap),
+    ];
+    for (take_packet, word) in wrong {
+        found(runs, taking(take_packet), &["take_packet\n", word]);
+    }
 }
 
 /// The last block that was taken is the highest free one and not the lowest.
