@@ -1,6 +1,7 @@
 /*
  * agree: calls the library and the baseline with the same pseudo-random inputs, and stops at the first difference in an answer, a state, a pool or an
- * output. A baseline that did less than the library would make every ratio a lie. Each refusal must be met, so that the comparison has seen it.
+ * output. A baseline that did less than the library would make every ratio a lie. Each refusal must be met, and each place that those of reading tell, so
+ * that the comparison has seen it.
  */
 #include "sides.h"
 
@@ -9,11 +10,18 @@
 #include <stdlib.h>
 #include <string.h>
 
-enum { ROOM = 81920 + 64, REFUSALS = 28 };
+enum { ROOM = 81920 + 64, REFUSALS = 28, READING = 8, NO_PLACE = 99999 };
+
+/* Who tells places; and those that each refusal of reading can have, a bit each: of 1, which counts octets, the ones below 8. */
+enum { READER, LANE, TELLERS };
+static const uint8_t places_of[READING] = {
+    [1] = 255, [2] = 1, [3] = 1, [4] = 1 << 1 | 1 << 2 | 1 << 4, [5] = 1 << 4, [6] = 1, [7] = 1 | 1 << 1 | 1 << 2 | 1 << 3,
+};
 
 static const struct side *const sides[2] = {&library, &baseline};
 static uint64_t seed = 1;
 static unsigned long calls, met[REFUSALS];
+static uint8_t met_places[TELLERS][READING];
 static uint8_t input[ROOM], output[2][ROOM], pool[2][BRANMUSLIN_POOL_LENGTH + 1];
 
 /* xorshift64*: its high half is even enough, and the same on every machine. */
@@ -58,6 +66,15 @@ static void compare(const char *function, const uint8_t refusal[2])
     met[refusal[0]]++;
 }
 
+/* What both sides left as the place: `none` where the refusal is not one of reading. */
+static void compare_places(const char *function, int teller, uint8_t refusal, const size_t place[2], size_t none)
+{
+    require(place[0] == place[1], function, "the place");
+    require((refusal > 0 && refusal < READING) || place[0] == none, function, "a place that is not to be told");
+    if (refusal < READING && place[0] < 8)
+        met_places[teller][refusal] |= (uint8_t)(1 << place[0]);
+}
+
 static void fill(uint8_t *octets, size_t n)
 {
     for (size_t i = 0; i < n; i++)
@@ -70,39 +87,39 @@ static void same_outputs_before(size_t n)
     memcpy(output[1], output[0], n);
 }
 
-static void make_space(void)
+static void make_space(uint8_t *at)
 {
-    input[0] &= 0x1F;
+    at[0] &= 0x1F;
     if (one_in(16))
-        input[0] |= 0x07, input[1] = 0xFF;
+        at[0] |= 0x07, at[1] = 0xFF;
     if (!one_in(4))
-        input[4] = 0, input[5] = (uint8_t)about(33);
+        at[4] = 0, at[5] = (uint8_t)about(33);
 }
 
-static void make_encapsulation(void)
+static void make_encapsulation(uint8_t *at)
 {
     const uint32_t l = below(4), header = 1u << l;
-    input[0] = (uint8_t)(0xE0 | about(6) << 2 | l);
+    at[0] = (uint8_t)(0xE0 | about(6) << 2 | l);
     if (one_in(4))
         return;
-    memset(input + 1, 0, 7);
+    memset(at + 1, 0, 7);
     if (header >= 4 && one_in(2))
-        input[1] = (uint8_t)any();
-    if (header == 8 && one_in(8))
-        input[2 + below(5)] = (uint8_t)below(3);
+        at[1] = (uint8_t)any();
+    if (header == 8 && one_in(4))
+        at[2 + below(5)] = (uint8_t)below(3);
     if (header > 1)
-        input[header - 1] = (uint8_t)about(40);
+        at[header - 1] = (uint8_t)about(40);
 }
 
 /* Octets that mostly begin like a packet of either kind, with a length that is about right. */
-static size_t some_packet(void)
+static size_t some_packet(uint8_t *at)
 {
     const size_t n = below(40);
-    fill(input, 40);
+    fill(at, 40);
     if (one_in(2))
-        make_space();
+        make_space(at);
     else if (!one_in(8))
-        make_encapsulation();
+        make_encapsulation(at);
     return n;
 }
 
@@ -111,11 +128,13 @@ static void read_packets(unsigned long n)
     for (unsigned long i = 0; i < n; i++) {
         struct branmuslin_packet packet[2];
         uint8_t refusal[2];
-        const size_t length = some_packet();
+        size_t place[2] = {NO_PLACE, NO_PLACE};
+        const size_t length = some_packet(input);
         memset(packet, 0x5A, sizeof packet);
         for (int s = 0; s < 2; s++)
-            refusal[s] = sides[s]->read_packet(input, length, &packet[s]);
+            refusal[s] = sides[s]->read_packet(input, length, &packet[s], &place[s]);
         compare("read_packet", refusal);
+        compare_places("read_packet", READER, refusal[0], place, NO_PLACE);
         require(memcmp(&packet[0], &packet[1], sizeof packet[0]) == 0, "read_packet", "the fields");
     }
 }
@@ -293,6 +312,8 @@ static uint8_t *lane_packet(const struct branmuslin_lane *l, size_t *length)
         at[0] |= 0x20;
     if (one_in(64))
         at[0] = 0xE9, at[1] = 12, *length = 12;
+    if (one_in(16))
+        *length = some_packet(at);
     return at;
 }
 
@@ -305,11 +326,14 @@ static struct branmuslin_state take_one(const struct branmuslin_state *state, si
     const size_t unit = l->octets + length, room = one_in(8) ? below(5000) : one_in(4) ? unit - (unit < 8 ? 0 : 5 + below(3)) : 81920;
     struct branmuslin_answer a[2];
     uint8_t refusal[2];
+    size_t place[2];
     for (int s = 0; s < 2; s++) {
         a[s] = sides[s]->take_packet(*state, lane, packet, length, pool[s], pool_length, output[s], room);
         refusal[s] = a[s].refusal;
+        place[s] = a[s].place;
     }
     compare("take_packet", refusal);
+    compare_places("take_packet", LANE, refusal[0], place, 0);
     require(a[0].kind == a[1].kind && a[0].given_up == a[1].given_up && a[0].missing == a[1].missing && a[0].octets == a[1].octets, "take_packet",
             "the answer");
     compare_states("take_packet", &a[0].state, &a[1].state);
@@ -345,6 +369,22 @@ static void run_lanes(unsigned long n)
     }
 }
 
+static bool is_all_met(void)
+{
+    for (int refusal = 0; refusal < REFUSALS; refusal++)
+        if (met[refusal] == 0) {
+            printf("agree: no call was answered %d, so nothing was compared there\n", refusal);
+            return false;
+        }
+    for (int teller = 0; teller < TELLERS; teller++)
+        for (int refusal = 0; refusal < READING; refusal++)
+            if ((met_places[teller][refusal] & places_of[refusal]) != places_of[refusal]) {
+                printf("agree: %s did not tell every place of %d, so some were not compared\n", teller == READER ? "the reader" : "a lane", refusal);
+                return false;
+            }
+    return true;
+}
+
 int main(void)
 {
     read_packets(400000);
@@ -354,11 +394,8 @@ int main(void)
     fill(input, ROOM);
     for (int run = 0; run < 60; run++)
         run_lanes(1000);
-    for (int refusal = 0; refusal < REFUSALS; refusal++)
-        if (met[refusal] == 0) {
-            printf("agree: no call was answered %d, so nothing was compared there\n", refusal);
-            return 1;
-        }
-    printf("agree: library and baseline gave the same in %lu calls, which met every refusal\n", calls);
+    if (!is_all_met())
+        return 1;
+    printf("agree: library and baseline gave the same in %lu calls, which met every refusal and every place\n", calls);
     return 0;
 }

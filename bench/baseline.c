@@ -27,29 +27,36 @@ static void put32(uint8_t *s, uint32_t x)
     put16(s + 2, x);
 }
 
-/* Packets. */
+/* Packets. A refusal of reading tells the place of the field at fault, or how many octets there are. */
 
-static inline uint8_t read_space(const uint8_t *s, size_t n, struct branmuslin_packet *packet)
+static inline uint8_t refused_at(size_t at, uint8_t refusal, size_t *place)
+{
+    *place = at;
+    return refusal;
+}
+
+static inline uint8_t read_space(const uint8_t *s, size_t n, struct branmuslin_packet *packet, size_t *place)
 {
     if (n < SPACE_HEADER)
-        return BRANMUSLIN_CUT_SHORT;
+        return refused_at(n, BRANMUSLIN_CUT_SHORT, place);
     const uint32_t first = be16(s), second = be16(s + 2), length = be16(s + 4) + 1;
     /* APID 2047 and the flag are the low twelve bits, all of them 1. */
     if ((first & 0xFFF) == 0xFFF)
-        return BRANMUSLIN_IDLE_FLAGGED;
+        return refused_at(0, BRANMUSLIN_IDLE_FLAGGED, place);
     if (n < SPACE_HEADER + length)
-        return BRANMUSLIN_CUT_SHORT;
+        return refused_at(n, BRANMUSLIN_CUT_SHORT, place);
     *packet = (struct branmuslin_packet){.type = first >> 12 & 1, .secondary = first >> 11 & 1, .apid = first & 2047, .flags = second >> 14,
                                          .count = second & MOST_COUNT, .offset = SPACE_HEADER, .length = length};
     return BRANMUSLIN_DONE;
 }
 
-static inline uint8_t read_encapsulation(const uint8_t *s, size_t n, struct branmuslin_packet *packet)
+static inline uint8_t read_encapsulation(const uint8_t *s, size_t n, struct branmuslin_packet *packet, size_t *place)
 {
-    const uint32_t header = 1u << (s[0] & 3), protocol = s[0] >> 2 & 7;
+    /* The length is the second half of a header of 2, 4 or 8 octets. */
+    const uint32_t header = 1u << (s[0] & 3), protocol = s[0] >> 2 & 7, length_at = header / 2;
     uint32_t user = 0, extension = 0, ccsds = 0, size = 1;
     if (n < header)
-        return BRANMUSLIN_CUT_SHORT;
+        return refused_at(n, BRANMUSLIN_CUT_SHORT, place);
     if (header == 2) {
         size = s[1];
     } else if (header >= 4) {
@@ -62,35 +69,35 @@ static inline uint8_t read_encapsulation(const uint8_t *s, size_t n, struct bran
         }
     }
     if ((protocol == 6 && header < 4) || (extension != 0 && protocol != 6) || ccsds != 0)
-        return BRANMUSLIN_NAMES_NOTHING;
+        return refused_at(header < 4 ? 0 : extension != 0 && protocol != 6 ? 1 : ccsds > 0xFF ? 2 : 3, BRANMUSLIN_NAMES_NOTHING, place);
     if (size < header)
-        return BRANMUSLIN_UNDER_HEADER;
+        return refused_at(length_at, BRANMUSLIN_UNDER_HEADER, place);
     if (size > BRANMUSLIN_LONGEST_PACKET)
-        return BRANMUSLIN_OVER_LIMIT;
+        return refused_at(length_at, BRANMUSLIN_OVER_LIMIT, place);
     if (size == header && protocol != 0)
-        return BRANMUSLIN_NO_CONTENT;
+        return refused_at(0, BRANMUSLIN_NO_CONTENT, place);
     if (n < size)
-        return BRANMUSLIN_CUT_SHORT;
+        return refused_at(n, BRANMUSLIN_CUT_SHORT, place);
     *packet = (struct branmuslin_packet){.version = BRANMUSLIN_ENCAPSULATION, .protocol = protocol, .user = user, .extension = extension,
                                          .offset = header, .length = size - header};
     return BRANMUSLIN_DONE;
 }
 
-static inline uint8_t read_packet(const uint8_t *s, size_t n, struct branmuslin_packet *packet)
+static inline uint8_t read_packet(const uint8_t *s, size_t n, struct branmuslin_packet *packet, size_t *place)
 {
     if (n == 0)
-        return BRANMUSLIN_CUT_SHORT;
+        return refused_at(0, BRANMUSLIN_CUT_SHORT, place);
     const uint8_t version = s[0] >> 5;
     if (version == BRANMUSLIN_SPACE)
-        return read_space(s, n, packet);
+        return read_space(s, n, packet, place);
     if (version == BRANMUSLIN_ENCAPSULATION)
-        return read_encapsulation(s, n, packet);
-    return BRANMUSLIN_BAD_VERSION;
+        return read_encapsulation(s, n, packet, place);
+    return refused_at(0, BRANMUSLIN_BAD_VERSION, place);
 }
 
-uint8_t base_read_packet(const uint8_t *octets, size_t octets_length, struct branmuslin_packet *packet)
+uint8_t base_read_packet(const uint8_t *octets, size_t octets_length, struct branmuslin_packet *packet, size_t *place)
 {
-    return read_packet(octets, octets_length, packet);
+    return read_packet(octets, octets_length, packet, place);
 }
 
 uint8_t base_write_space(uint32_t type, uint32_t secondary, uint32_t apid, uint32_t flags, uint32_t count, const uint8_t *data, size_t data_length,
@@ -386,6 +393,7 @@ struct told {
     bool given_up;
     uint16_t missing;
     size_t octets;
+    size_t place;
 };
 
 static inline struct told refused(uint8_t refusal)
@@ -393,10 +401,10 @@ static inline struct told refused(uint8_t refusal)
     return (struct told){.refusal = refusal};
 }
 
-/* The refusals that the lane's settings and the octets alone decide. */
-static inline uint8_t refusal_of(const struct branmuslin_settings *s, const uint8_t *octets, size_t n, struct branmuslin_packet *packet)
+/* The refusals that the lane's settings and the octets alone decide. The place is set for those of reading. */
+static inline uint8_t refusal_of(const struct branmuslin_settings *s, const uint8_t *octets, size_t n, struct branmuslin_packet *packet, size_t *place)
 {
-    const uint8_t refusal = read_packet(octets, n, packet);
+    const uint8_t refusal = read_packet(octets, n, packet, place);
     if (refusal != BRANMUSLIN_DONE)
         return refusal;
     if (n > packet->offset + packet->length)
@@ -522,14 +530,15 @@ static inline struct told take(struct branmuslin_state *state, size_t lane, cons
 {
     struct branmuslin_packet read;
     struct view view;
+    size_t place = 0;
     if (pool_length != BRANMUSLIN_POOL_LENGTH || !is_sound(state, &view))
         return refused(BRANMUSLIN_NOT_SOUND);
     if (lane >= BRANMUSLIN_LANES || !state->lanes[lane].opened)
         return refused(BRANMUSLIN_NOT_OPEN);
     const struct branmuslin_lane *l = &state->lanes[lane];
-    const uint8_t refusal = refusal_of(&l->settings, packet, packet_length, &read);
+    const uint8_t refusal = refusal_of(&l->settings, packet, packet_length, &read, &place);
     if (refusal != BRANMUSLIN_DONE)
-        return refused(refusal);
+        return (struct told){.refusal = refusal, .place = place};
     if (l->packets != 0 && read.count == l->last)
         return (struct told){.kind = BRANMUSLIN_REPEAT};
     if (l->packets >= BRANMUSLIN_MOST_PACKETS)
@@ -547,5 +556,5 @@ struct branmuslin_answer base_take_packet(struct branmuslin_state state, size_t 
                                           size_t pool_length, uint8_t *output, size_t output_length)
 {
     const struct told told = take(&state, lane, packet, packet_length, pool, pool_length, output, output_length);
-    return (struct branmuslin_answer){told.refusal, told.kind, told.given_up, told.missing, told.octets, state};
+    return (struct branmuslin_answer){told.refusal, told.kind, told.given_up, told.missing, told.octets, told.place, state};
 }

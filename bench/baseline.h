@@ -7,7 +7,7 @@
 
 #include <branmuslin.h>
 
-uint8_t base_read_packet(const uint8_t *octets, size_t octets_length, struct branmuslin_packet *packet);
+uint8_t base_read_packet(const uint8_t *octets, size_t octets_length, struct branmuslin_packet *packet, size_t *place);
 uint8_t base_write_space(uint32_t type, uint32_t secondary, uint32_t apid, uint32_t flags, uint32_t count, const uint8_t *data, size_t data_length,
                          uint8_t *output, size_t output_length, size_t *written);
 uint8_t base_write_encapsulation(uint32_t protocol, uint32_t user, uint32_t extension, const uint8_t *content, size_t content_length, uint8_t *output,

@@ -93,9 +93,10 @@ static void prepare_encapsulation_walk(size_t packets)
 static uint64_t run_walk(const struct side *side)
 {
     struct branmuslin_packet packet;
+    size_t place;
     uint64_t sum = 0;
     for (size_t at = 0; at < input_length; at += packet.offset + packet.length) {
-        if (side->read_packet(input + at, input_length - at, &packet) != BRANMUSLIN_DONE)
+        if (side->read_packet(input + at, input_length - at, &packet, &place) != BRANMUSLIN_DONE)
             break;
         sum += packet.length;
     }
@@ -115,9 +116,10 @@ static void prepare_one(size_t size)
 static uint64_t run_read(const struct side *side)
 {
     struct branmuslin_packet packet;
+    size_t place;
     uint64_t sum = 0;
     for (int i = 0; i < CALLS; i++) {
-        sum += side->read_packet(input, input_length, &packet);
+        sum += side->read_packet(input, input_length, &packet, &place);
         sum += packet.length;
     }
     return sum;

@@ -52,11 +52,11 @@ static void put_listing(const uint8_t *octets, size_t n)
 {
     struct branmuslin_packet packet;
     uint32_t packets = 0;
-    size_t at = 0;
+    size_t at = 0, place;
     for (; at < n; at += packet.offset + packet.length, packets++) {
-        const uint32_t refusal = base_read_packet(octets + at, n - at, &packet);
+        const uint8_t refusal = base_read_packet(octets + at, n - at, &packet, &place);
         if (refusal != BRANMUSLIN_DONE) {
-            put_line(at, " refused", &refusal, 1);
+            put_line(at, " refused", (const uint32_t[]){refusal, (uint32_t)place}, 2);
             break;
         }
         put_packet(at, &packet);

@@ -56,7 +56,9 @@ static void take_packet(const uint8_t *s)
 {
     const struct branmuslin_answer a = base_take_packet(state, s[1], s + 10, be(s + 6, 4), pool, sizeof pool, output, room(s + 2));
     state = a.state;
-    if (a.kind == BRANMUSLIN_REFUSED)
+    if (a.kind == BRANMUSLIN_REFUSED && a.refusal <= BRANMUSLIN_NAMES_NOTHING)
+        printf("packet %u refused %u %zu\n", s[1], a.refusal, a.place);
+    else if (a.kind == BRANMUSLIN_REFUSED)
         printf("packet %u refused %u\n", s[1], a.refusal);
     else if (a.kind == BRANMUSLIN_REPEAT)
         printf("packet %u repeat\n", s[1]);

@@ -12,10 +12,11 @@
  * records, 20 octets a lane in the order of the lanes, are written to FILE and read back from it.
  *
  * It prints a line for each packet that is refused: its offset in the upload, the number of the refusal and the cause. Octets that are no
- * packet end their upload, and the others go on. At last it prints the tallies, where `refused` counts those lines:
+ * packet (1 to 7) end their upload, and the others go on; before the cause stands the place of the field at fault, counted from the packet's offset (of 1,
+ * the octets that are there). At last it prints the tallies, where `refused` counts those lines:
  *
  *     8 refused 13 an Encapsulation Packet is sent to a lane
- *     14 refused 1 the octets end before the header or the packet does; the upload ends here, with octets left: 2
+ *     14 refused 1 2 the octets end before the header or the packet does; the upload ends here, with octets left: 2
  *     units 1 packets 1 missing 0 broken 0 repeats 0 refused 2
  *
  * With several uploads, each line begins with the number of the lane. A lane that is refused at opening has a line such as
@@ -54,7 +55,7 @@ struct intake {
     const char *units_to, *records_to; /* null where none is given */
 };
 
-/* Every number that can come up here: a lane is given whole packets, the outputs suffice, and the state and the pool are the library's own. */
+/* Every number that can come up here, but for 7: a lane is given whole packets, the outputs suffice, and the state and the pool are the library's own. */
 static const char *const causes[] = {
     [BRANMUSLIN_CUT_SHORT] = "the octets end before the header or the packet does",
     [BRANMUSLIN_BAD_VERSION] = "the version is neither 000 nor 111",
@@ -62,7 +63,6 @@ static const char *const causes[] = {
     [BRANMUSLIN_UNDER_HEADER] = "the encapsulation length is less than its header",
     [BRANMUSLIN_OVER_LIMIT] = "the encapsulation length is over 65,542",
     [BRANMUSLIN_NO_CONTENT] = "there is no content, and the protocol ID is not 0",
-    [BRANMUSLIN_NAMES_NOTHING] = "protocol ID 6 in a 1 or 2 octet header; or an extension that is not 0 with another ID; or a CCSDS field that is not 0",
     [BRANMUSLIN_NOT_SPACE] = "an Encapsulation Packet is sent to a lane",
     [BRANMUSLIN_NOT_TELEMETRY] = "a packet of type 1 is sent to a lane",
     [BRANMUSLIN_OTHER_APID] = "the APID is not the lane's",
@@ -79,6 +79,14 @@ static const char *const causes[] = {
 static const char *cause(uint8_t refusal)
 {
     return refusal < sizeof causes / sizeof *causes && causes[refusal] ? causes[refusal] : "unknown";
+}
+
+/* 7 has three causes, and the place shows which it is. */
+static const char *cause_of_7(size_t place)
+{
+    if (place == 0)
+        return "protocol ID 6 in a 1 or 2 octet header";
+    return place == 1 ? "the extension is not 0, and the protocol ID is not 6" : "the CCSDS field is not 0";
 }
 
 static int fail(const char *what, const char *path)
@@ -142,9 +150,13 @@ static int write_unit(struct intake *intake, size_t lane, size_t length)
     return write_file(path, intake->unit, length);
 }
 
-static void print_refused_packet(struct upload *upload, uint8_t refusal)
+/* Reading alone, which refuses with 1 to 7, tells a place. */
+static void print_refused_packet(struct upload *upload, uint8_t refusal, size_t place)
 {
-    printf("%s%zu refused %u %s", upload->front, upload->at, (unsigned)refusal, cause(refusal));
+    printf("%s%zu refused %u ", upload->front, upload->at, (unsigned)refusal);
+    if (refusal <= BRANMUSLIN_NAMES_NOTHING)
+        printf("%zu ", place);
+    fputs(refusal == BRANMUSLIN_NAMES_NOTHING ? cause_of_7(place) : cause(refusal), stdout);
     upload->refused++;
 }
 
@@ -169,9 +181,10 @@ static int take_next(struct intake *intake, size_t lane)
     const uint8_t *next = upload->octets + upload->at;
     const size_t left = upload->length - upload->at;
     struct branmuslin_packet packet;
-    const uint8_t refusal = branmuslin_read_packet(next, left, &packet);
+    size_t place = 0;
+    const uint8_t refusal = branmuslin_read_packet(next, left, &packet, &place);
     if (refusal != BRANMUSLIN_DONE) {
-        print_refused_packet(upload, refusal);
+        print_refused_packet(upload, refusal, place);
         printf("; the upload ends here, with octets left: %zu\n", left);
         upload->at = upload->length;
         return DONE;
@@ -181,7 +194,7 @@ static int take_next(struct intake *intake, size_t lane)
                                                                    intake->unit, sizeof intake->unit);
     intake->state = answer.state;
     if (answer.kind == BRANMUSLIN_REFUSED) {
-        print_refused_packet(upload, answer.refusal);
+        print_refused_packet(upload, answer.refusal, answer.place);
         putchar('\n');
     }
     upload->repeats += answer.kind == BRANMUSLIN_REPEAT;

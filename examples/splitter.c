@@ -12,9 +12,9 @@
  *     8 encapsulation protocol=2 user=0 extension=0 header=2 content=3
  *
  * `data`, `header` and `content` count octets, the others are the packet's fields. Where the octets are no packet, it stops with a line that
- * gives the refusal, the octets left and the cause:
+ * gives the refusal, the place of the field at fault, counted from the packet's offset (of 1, the octets that are there), the cause and the octets left:
  *
- *     13 refused 1 left=2: the octets end before the header or the packet does
+ *     13 refused 1 2 the octets end before the header or the packet does; octets left: 2
  *
  * With APID (0 to 2047) and OUTPUT it also writes the data fields of that APID's Space Packets, one after another, to OUTPUT. A secondary
  * header is a part of the data field, and only the mission knows how long it is. Where a packet is refused, OUTPUT has the data up to there.
@@ -77,7 +77,15 @@ static void print_packet(size_t at, const struct branmuslin_packet *p)
                (unsigned)p->extension, (unsigned)p->offset, (unsigned)p->length);
 }
 
-static const char *cause(uint8_t refusal)
+/* 7 has three causes, and the place shows which it is. */
+static const char *cause_of_7(size_t place)
+{
+    if (place == 0)
+        return "protocol ID 6 in a 1 or 2 octet header";
+    return place == 1 ? "the extension is not 0, and the protocol ID is not 6" : "the CCSDS field is not 0";
+}
+
+static const char *cause(uint8_t refusal, size_t place)
 {
     switch (refusal) {
     case BRANMUSLIN_CUT_SHORT: return "the octets end before the header or the packet does";
@@ -86,7 +94,7 @@ static const char *cause(uint8_t refusal)
     case BRANMUSLIN_UNDER_HEADER: return "the encapsulation length is less than its header";
     case BRANMUSLIN_OVER_LIMIT: return "the encapsulation length is over 65,542";
     case BRANMUSLIN_NO_CONTENT: return "there is no content, and the protocol ID is not 0";
-    case BRANMUSLIN_NAMES_NOTHING: return "protocol ID 6 in a header of 1 or 2 octets, an extension with another ID, or a CCSDS field not 0";
+    case BRANMUSLIN_NAMES_NOTHING: return cause_of_7(place);
     default: return "unknown";
     }
 }
@@ -94,10 +102,11 @@ static const char *cause(uint8_t refusal)
 static int split(const uint8_t *octets, size_t length, const struct sink *sink)
 {
     struct branmuslin_packet packet;
+    size_t place = 0;
     for (size_t at = 0; at < length; at += (size_t)packet.offset + packet.length) {
-        const uint8_t refusal = branmuslin_read_packet(octets + at, length - at, &packet);
+        const uint8_t refusal = branmuslin_read_packet(octets + at, length - at, &packet, &place);
         if (refusal != 0) {
-            printf("%zu refused %u left=%zu: %s\n", at, (unsigned)refusal, length - at, cause(refusal));
+            printf("%zu refused %u %zu %s; octets left: %zu\n", at, (unsigned)refusal, place, cause(refusal, place), length - at);
             return REFUSED;
         }
         print_packet(at, &packet);

@@ -11,7 +11,8 @@
  * - It takes every input of every length, and returns. It tells 0, or the number of the refusal (below); where several causes hold, the
  *   first in the order that stands at the function.
  * - A call that is refused leaves everything that was lent to it as it was: the output, the pool, the struct and every number behind a pointer;
- *   and a state comes back as it was handed in. (One exception, by its purpose: *index of branmuslin_read_record_file, which belongs to refusal 25.)
+ *   and a state comes back as it was handed in. (Two exceptions, by their purpose: *index of branmuslin_read_record_file, which belongs to refusal 25, and
+ *   *place of branmuslin_read_packet, which belongs to 1 to 7.)
  * - Pointers must not be null. A length of 0 needs no valid octets, but a pointer that is not null all the same: what malloc(0) or an empty
  *   std::vector gives may be null.
  * - What is lent to one call must not overlap: input, output, struct and numbers are separate memory (parts of one array that do not
@@ -29,7 +30,7 @@
 extern "C" {
 #endif
 
-#define BRANMUSLIN_RELEASE "0.2.0"
+#define BRANMUSLIN_RELEASE "0.3.0"
 
 /* The compiler warns of a null that it sees. */
 #ifdef __GNUC__
@@ -114,13 +115,20 @@ struct branmuslin_packet {
  * and the next packet of a run begins at octets + offset + length:
  *
  *     for (at = 0; at < n; at += packet.offset + packet.length)
- *         if (branmuslin_read_packet(octets + at, n - at, &packet) != BRANMUSLIN_DONE)
- *             break;
+ *         if (branmuslin_read_packet(octets + at, n - at, &packet, &place) != BRANMUSLIN_DONE)
+ *             break;  (octets[at + place] is at fault; where the refusal is 1, the octets end there)
  *
- * Returns 0 with *packet set; or 1 to 7, with *packet as it was. The order: 1 for no octets, 2, 1 for the header, then 3 (Space) or 7, 4, 5, 6
- * (Encapsulation), then 1 for the packet.
+ * Returns 0 with *packet set, and *place as it was; or 1 to 7, with *packet as it was and *place set. The order: 1 for no octets, 2, 1 for the header, then
+ * 3 (Space) or 7, 4, 5, 6 (Encapsulation), then 1 for the packet.
+ *
+ * The place is the offset, from the front of the octets, of the field at fault:
+ *   1        the number of octets present, octets_length;
+ *   2, 3, 6  0: the version; the secondary header flag; the protocol ID that has no content;
+ *   4, 5     where the length field begins: 1, 2 or 4 in a header of 2, 4 or 8 octets;
+ *   7        0 for protocol ID 6 in a header of 1 or 2 octets; 1 for the extension; 2 for the CCSDS field, or 3 where octet 2 is 0. Where two of these are
+ *            wrong, the earlier.
  */
-uint8_t branmuslin_read_packet(const uint8_t *octets, size_t octets_length, struct branmuslin_packet *packet) BRANMUSLIN_NOT_NULL;
+uint8_t branmuslin_read_packet(const uint8_t *octets, size_t octets_length, struct branmuslin_packet *packet, size_t *place) BRANMUSLIN_NOT_NULL;
 
 /*
  * Writes a Space Packet at the front of the output: six header octets, then the data, which has 1 to 65,536 octets. The fields are given in
@@ -274,6 +282,7 @@ struct branmuslin_answer {
     bool given_up;      /* whether an open group was given up */
     uint16_t missing;   /* packets missing between the last accepted one and this */
     size_t octets;      /* of the unit; 0 for every other kind */
+    size_t place;       /* as branmuslin_read_packet tells it, where the refusal is 1 to 7; else 0 */
     struct branmuslin_state state;
 };
 
@@ -299,10 +308,11 @@ struct branmuslin_change branmuslin_open_lane(struct branmuslin_state state, siz
  * Gives a lane one packet: all of the octets. A packet that begins a group or adds to it is held in the pool; a last one ends the unit, which is written
  * at the front of the output, as is an unsegmented one. Octets of the output after the unit stay as they were, and so does all of it for other answers.
  *
- * Refusals, in this order: 24, 11, those of branmuslin_read_packet, 12 to 17, (here a repeat is answered,) 18, 19, 27, 20. A packet that is refused counts as
- * not received: it may be given again, for instance with a longer output, or, after 27, when the other lanes hold less or are closed; but before the lane's
- * next packet, since after that one its count would look like a gap. After 19 it is refused so again as long as the lane is as it is, whatever the others do;
- * a lane that is alone in the pool never gets 27, and one that would stay within its share gets neither.
+ * Refusals, in this order: 24, 11, those of branmuslin_read_packet, 12 to 17, (here a repeat is answered,) 18, 19, 27, 20. With those of
+ * branmuslin_read_packet comes the place that it tells; the others have none. A packet that is refused counts as not received: it may be given again, for
+ * instance with a longer output, or, after 27, when the other lanes hold less or are closed; but before the lane's next packet, since after that one its
+ * count would look like a gap. After 19 it is refused so again as long as the lane is as it is, whatever the others do; a lane that is alone in the pool
+ * never gets 27, and one that would stay within its share gets neither.
  */
 struct branmuslin_answer branmuslin_take_packet(struct branmuslin_state state, size_t lane, const uint8_t *packet, size_t packet_length, uint8_t *pool,
                                                 size_t pool_length, uint8_t *output, size_t output_length) BRANMUSLIN_NOT_NULL;

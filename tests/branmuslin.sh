@@ -33,7 +33,7 @@ credit_prints() {
 credits_samples() {
     credit_prints "8 refused 13 an Encapsulation Packet is sent to a lane
 9 refused 13 an Encapsulation Packet is sent to a lane
-14 refused 1 the octets end before the header or the packet does; the upload ends here, with octets left: 2
+14 refused 1 2 the octets end before the header or the packet does; the upload ends here, with octets left: 2
 units 1 packets 1 missing 0 broken 0 repeats 0 refused 3" "${settings[@]}" samples/paper.bin &&
         ./branmuslin credit --cap 2 --share 1 --secondary 6 --apid 100 --station 65535 samples/every.bin >"$work/out" &&
         [ "$(tail -n 1 "$work/out")" = 'units 1 packets 1 missing 0 broken 0 repeats 0 refused 18' ]

@@ -22,7 +22,7 @@ fuzz_finds_faults() {
     local fault wraps faults
     mapfile -t wraps < <(sed -n 's/^WRAPPED([a-z0-9_]*, \([a-z_]*\),.*/-Wl,--wrap=branmuslin_\1/p' tests/fuzz/wrong.c)
     mapfile -t faults < <(grep -o 'wrong("[^"]*' tests/fuzz/wrong.c | cut -d '"' -f 2)
-    [ "${#wraps[@]}" -eq 11 ] && [ "${#faults[@]}" -ge 30 ] &&
+    [ "${#wraps[@]}" -eq 11 ] && [ "${#faults[@]}" -ge 48 ] &&
         "${CC:-cc}" "${fuzz_flags[@]}" "${fuzz_sources[@]}" tests/fuzz/wrong.c "$fuzz_archive" "${wraps[@]}" -o "$work/fuzz-wrong" &&
         "$work/fuzz-wrong" tests/fuzz/corpus/* || return
     for fault in "${faults[@]}"; do

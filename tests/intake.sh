@@ -40,7 +40,7 @@ cause_of() { awk -F' [|] ' -v row="| $1" '$1 == row { sub(/ \|$/, "", $2); print
 takes_paper_sample() {
     intake_prints "8 refused 13 $(cause_of 13)
 9 refused 13 $(cause_of 13)
-14 refused 1 $(cause_of 1); the upload ends here, with octets left: 2
+14 refused 1 2 $(cause_of 1); the upload ends here, with octets left: 2
 units 1 packets 1 missing 0 broken 0 repeats 0 refused 3
 " --units "$uploads/units" --records "$work/records" 7:42:0:1:2:samples/paper.bin &&
         cmp "$work/records" <(printf '\0\7\0\52\0\0\0\1\0\0\0\1\0\0\0\0\0\0\0\0') && has_records '7 42 units 1 packets 1 missing 0 broken 0' &&
@@ -80,19 +80,30 @@ counts() {
         has_records '7 42 units 2 packets 4 missing 3 broken 1'
 }
 
-# no_packet NUMBER OCTETS: octets that are no packet end their upload with the offset, the number and the octets left, and the other goes on.
+# no_packet NUMBER PLACE OCTETS [WORDS]: octets that are no packet end their upload with the offset, the number, the place in the packet, the words (those of
+# README.md if none are given) and the octets left, and the other goes on.
 no_packet() {
-    upload a "$2"'\xE0' && upload b '\xE0'"$2"'\xE0' && intake_prints "0 0 refused $1 $(cause_of "$1"); the upload ends here, with octets left: $(wc -c <"$uploads/a")
+    local told="refused $1 $2 ${4-$(cause_of "$1")}"
+    upload a "$3"'\xE0' && upload b '\xE0'"$3"'\xE0' && intake_prints "0 0 $told; the upload ends here, with octets left: $(wc -c <"$uploads/a")
 1 0 refused 13 $(cause_of 13)
-1 1 refused $1 $(cause_of "$1"); the upload ends here, with octets left: $(wc -c <"$uploads/a")
+1 1 $told; the upload ends here, with octets left: $(wc -c <"$uploads/a")
 0 units 0 packets 0 missing 0 broken 0 repeats 0 refused 1
 1 units 0 packets 0 missing 0 broken 0 repeats 0 refused 2
 " "7:42:0:1:1:$uploads/a" "7:42:0:1:1:$uploads/b"
 }
 
 says_no_packet() {
-    no_packet 1 '\x00\x2A\xC0\x05\x00\x01' && no_packet 2 '\x20' && no_packet 3 '\x0F\xFF\xC0\x00\x00\x00\x00' && no_packet 4 '\xE9\x01' &&
-        no_packet 5 '\xEB\x00\x00\x00\x00\x01\x00\x07' && no_packet 6 '\xE4' && no_packet 7 '\xF9\x03\x00'
+    no_packet 1 7 '\x00\x2A\xC0\x05\x00\x01' && no_packet 2 0 '\x20' && no_packet 3 0 '\x0F\xFF\xC0\x00\x00\x00\x00' && no_packet 4 1 '\xE9\x01' &&
+        no_packet 4 2 '\xEA\x00\x00\x03' && no_packet 4 4 '\xEB\x00\x00\x00\x00\x00\x00\x07' && no_packet 5 4 '\xEB\x00\x00\x00\x00\x01\x00\x07' &&
+        no_packet 6 0 '\xE4' && no_packet 6 0 '\xFA\x03\x00\x04'
+}
+
+# Of the causes of 7 that which the place shows; of two, the earlier.
+says_what_names_nothing() {
+    local extension='the extension is not 0, and the protocol ID is not 6' field='the CCSDS field is not 0'
+    no_packet 7 0 '\xF9\x03\x00' 'protocol ID 6 in a 1 or 2 octet header' && no_packet 7 1 '\xEA\x13\x00\x05\x55' "$extension" &&
+        no_packet 7 2 '\xEB\x00\x01\x00\x00\x00\x00\x09\x55' "$field" && no_packet 7 3 '\xFB\x03\x00\x01\x00\x00\x00\x09\x55' "$field" &&
+        no_packet 7 1 '\xEB\x03\x00\x01\x00\x00\x00\x09\x55' "$extension"
 }
 
 # not_taken NUMBER SETTINGS OCTETS: the packet is refused, and the next one is not.
@@ -235,7 +246,8 @@ check "intake: the paper's recording" takes_paper_sample
 check 'intake: samples/every.bin in three lanes, and its units' takes_every_sample
 check 'intake: a packet of each upload in turn' takes_in_turn
 check 'intake: repeats, gaps, strays and an open group' counts
-check 'intake: octets that are no packet, in words' says_no_packet
+check 'intake: octets that are no packet, the place and the words' says_no_packet
+check 'intake: a header that names nothing, the place and the words' says_what_names_nothing
 check 'intake: packets that a lane refuses, in words' says_not_taken
 check "intake: whose fault no room is, the lane's own or the others', in words" says_whose_fault
 check 'intake: lanes that are not opened, in words' says_not_opened

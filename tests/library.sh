@@ -60,7 +60,7 @@ installed_flags() {
     flags+=(-Wl,--fatal-warnings)
 }
 
-version_is_told() { [ "$(PKG_CONFIG_PATH=$prefix/lib/pkgconfig pkg-config --modversion branmuslin)" = 0.2.0 ]; }
+version_is_told() { [ "$(PKG_CONFIG_PATH=$prefix/lib/pkgconfig pkg-config --modversion branmuslin)" = 0.3.0 ]; }
 
 c_tests() {
     installed_flags && "$cc" -std=c11 "${strict[@]}" "${sanitized[@]}" tests/c/*.c -o "$work/c-tests" "${flags[@]}" &&
@@ -118,7 +118,7 @@ printf '%b' "$whole"'\x00\x2A' >"$work/cut.bin"
 printf '%b' "$whole"'\x18\x2A\x7F\xFF\x00\x02\x00\x0A\xFF\x07\xFF\x00\x00\x00\x00\x77\xFB\x5F\x00\x00\x00\x00\x00\x09\x88' >"$work/a whole.bin"
 
 splitter_paper() {
-    splits 3 "${whole_lines}14 refused 1 left=2: the octets end before the header or the packet does
+    splits 3 "${whole_lines}14 refused 1 2 the octets end before the header or the packet does; octets left: 2
 " "$work/cut.bin" && splits 3 "$(cat "$work/out")"$'\n' "$work/cut.bin" 42 "$work/data" && cmp "$work/data" <(printf '\xAA\xBB')
 }
 
@@ -141,13 +141,16 @@ splitter_longest() {
 splitter_refusal() { printf '%b' "$1" >"$work/bad.bin" && splits 3 "0 refused $2"$'\n' "$work/bad.bin"; }
 
 splitter_refusals() {
-    splitter_refusal '\x20' '2 left=1: the version is neither 000 nor 111' &&
-        splitter_refusal '\x0F\xFF\xC0\x00\x00\x00\x00' '3 left=7: APID 2047 (idle) has the secondary header flag' &&
-        splitter_refusal '\xE9\x01' '4 left=2: the encapsulation length is less than its header' &&
-        splitter_refusal '\xEB\x00\x00\x00\x00\x01\x00\x07' '5 left=8: the encapsulation length is over 65,542' &&
-        splitter_refusal '\xE4' '6 left=1: there is no content, and the protocol ID is not 0' &&
-        splitter_refusal '\xF9\x03\x00' \
-            '7 left=3: protocol ID 6 in a header of 1 or 2 octets, an extension with another ID, or a CCSDS field not 0'
+    splitter_refusal '\x20' '2 0 the version is neither 000 nor 111; octets left: 1' &&
+        splitter_refusal '\x0F\xFF\xC0\x00\x00\x00\x00' '3 0 APID 2047 (idle) has the secondary header flag; octets left: 7' &&
+        splitter_refusal '\xE9\x01' '4 1 the encapsulation length is less than its header; octets left: 2' &&
+        splitter_refusal '\xEA\x00\x00\x03' '4 2 the encapsulation length is less than its header; octets left: 4' &&
+        splitter_refusal '\xEB\x00\x00\x00\x00\x01\x00\x07' '5 4 the encapsulation length is over 65,542; octets left: 8' &&
+        splitter_refusal '\xE4' '6 0 there is no content, and the protocol ID is not 0; octets left: 1' &&
+        splitter_refusal '\xF9\x03\x00' '7 0 protocol ID 6 in a 1 or 2 octet header; octets left: 3' &&
+        splitter_refusal '\xEA\x13\x00\x05\x55' '7 1 the extension is not 0, and the protocol ID is not 6; octets left: 5' &&
+        splitter_refusal '\xEB\x00\x01\x00\x00\x00\x00\x09\x55' '7 2 the CCSDS field is not 0; octets left: 9' &&
+        splitter_refusal '\xEB\x00\x00\x01\x00\x00\x00\x09\x55' '7 3 the CCSDS field is not 0; octets left: 9'
 }
 
 splitter_bad_apid() {

@@ -106,6 +106,7 @@ void takes(struct place place, size_t lane, struct octets octets, size_t output_
     same(place, "missing", reply.missing, answer.missing);
     same(place, "given up", reply.given_up, answer.given_up);
     same(place, "octets", reply.unit.length, answer.octets);
+    same(place, "the octet at fault", reply.place, answer.place);
     as_wanted(place, answer.state, pool);
     holds(place, "the output", output, reply.unit);
     holds(place, "the packet", input, NO_OCTETS);

@@ -40,12 +40,14 @@ struct reply {
     uint16_t missing;
     bool given_up;
     struct octets unit;
+    size_t place; /* of the octet at fault; only the refusals of reading tell one */
 };
-#define REFUSED(number) ((struct reply){number, BRANMUSLIN_REFUSED, 0, false, NO_OCTETS})
-#define REPEATED ((struct reply){0, BRANMUSLIN_REPEAT, 0, false, NO_OCTETS})
-#define STRAY(missing, given_up) ((struct reply){0, BRANMUSLIN_STRAY, missing, given_up, NO_OCTETS})
-#define HELD(missing, given_up) ((struct reply){0, BRANMUSLIN_HELD, missing, given_up, NO_OCTETS})
-#define UNIT(missing, given_up, octets) ((struct reply){0, BRANMUSLIN_UNIT, missing, given_up, octets})
+#define REFUSED_AT(number, place) ((struct reply){number, BRANMUSLIN_REFUSED, 0, false, NO_OCTETS, place})
+#define REFUSED(number) REFUSED_AT(number, 0)
+#define REPEATED ((struct reply){0, BRANMUSLIN_REPEAT, 0, false, NO_OCTETS, 0})
+#define STRAY(missing, given_up) ((struct reply){0, BRANMUSLIN_STRAY, missing, given_up, NO_OCTETS, 0})
+#define HELD(missing, given_up) ((struct reply){0, BRANMUSLIN_HELD, missing, given_up, NO_OCTETS, 0})
+#define UNIT(missing, given_up, octets) ((struct reply){0, BRANMUSLIN_UNIT, missing, given_up, octets, 0})
 
 /* The calls. An output is lent as long as is said, and must have the unit or the record at its front, or be as it was. */
 void opens(struct place place, size_t lane, struct branmuslin_settings settings, uint8_t refusal);

@@ -52,13 +52,14 @@ static_assert(sizeof(branmuslin_change) == 420, "branmuslin_change");
 AT(branmuslin_change, refusal, 0);
 AT(branmuslin_change, state, 4);
 
-static_assert(sizeof(branmuslin_answer) == 432, "branmuslin_answer");
+static_assert(sizeof(branmuslin_answer) == 440, "branmuslin_answer");
 AT(branmuslin_answer, refusal, 0);
 AT(branmuslin_answer, kind, 1);
 AT(branmuslin_answer, given_up, 2);
 AT(branmuslin_answer, missing, 4);
 AT(branmuslin_answer, octets, 8);
-AT(branmuslin_answer, state, 16);
+AT(branmuslin_answer, place, 16);
+AT(branmuslin_answer, state, 24);
 
 static_assert(BRANMUSLIN_DONE == 0 && BRANMUSLIN_CUT_SHORT == 1 && BRANMUSLIN_BAD_VERSION == 2 && BRANMUSLIN_IDLE_FLAGGED == 3 && BRANMUSLIN_UNDER_HEADER == 4 &&
                   BRANMUSLIN_OVER_LIMIT == 5 && BRANMUSLIN_NO_CONTENT == 6 && BRANMUSLIN_NAMES_NOTHING == 7 && BRANMUSLIN_OVER_WIDTH == 8 &&
@@ -80,9 +81,11 @@ static_assert(BRANMUSLIN_LONGEST_PACKET == 65542 && BRANMUSLIN_RECORD_LENGTH == 
 
 static bool reads()
 {
-    const uint8_t idle = 0xE0;
+    const uint8_t idle = 0xE0, cut = 0x00;
     branmuslin_packet packet;
-    return branmuslin_read_packet(&idle, 1, &packet) == 0 && packet.version == 7 && packet.offset == 1 && packet.length == 0;
+    size_t place = 9;
+    return branmuslin_read_packet(&idle, 1, &packet, &place) == 0 && place == 9 && packet.version == 7 && packet.offset == 1 && packet.length == 0 &&
+           branmuslin_read_packet(&cut, 1, &packet, &place) == 1 && place == 1;
 }
 
 // Structs by value, in and out.
@@ -95,8 +98,8 @@ static bool takes()
     const branmuslin_change opened = branmuslin_open_lane(branmuslin_fresh_start(), 0, settings, pool, sizeof pool);
     const branmuslin_answer answer = branmuslin_take_packet(opened.state, 0, packet, sizeof packet, pool, sizeof pool, unit, sizeof unit);
     const branmuslin_change closed = branmuslin_close_lane(answer.state, 0, pool, sizeof pool, record, sizeof record);
-    return opened.refusal == 0 && answer.refusal == 0 && answer.kind == BRANMUSLIN_UNIT && answer.octets == 2 && unit[0] == 0xAA && unit[1] == 0xBB &&
-           answer.state.lanes[0].units == 1 && closed.refusal == 0 && record[11] == 1 && branmuslin_is_sound(closed.state) &&
+    return opened.refusal == 0 && answer.refusal == 0 && answer.kind == BRANMUSLIN_UNIT && answer.octets == 2 && answer.place == 0 && unit[0] == 0xAA &&
+           unit[1] == 0xBB && answer.state.lanes[0].units == 1 && closed.refusal == 0 && record[11] == 1 && branmuslin_is_sound(closed.state) &&
            !closed.state.lanes[0].opened;
 }
 

@@ -26,13 +26,14 @@ AT(state, marks, 288);
 SIZE(change, 420);
 AT(change, refusal, 0);
 AT(change, state, 4);
-SIZE(answer, 432);
+SIZE(answer, 440);
 AT(answer, refusal, 0);
 AT(answer, kind, 1);
 AT(answer, given_up, 2);
 AT(answer, missing, 4);
 AT(answer, octets, 8);
-AT(answer, state, 16);
+AT(answer, place, 16);
+AT(answer, state, 24);
 
 enum { CONTINUATION, FIRST, LAST, UNSEGMENTED };
 

@@ -21,11 +21,12 @@ static uint8_t *zeros(size_t length)
 static void inputs(uint8_t *octets)
 {
     uint8_t output[300];
-    size_t number = 0, index = 0;
+    size_t number = 0, index = 0, place = 9;
     struct branmuslin_packet packet = {0};
     struct branmuslin_record record = {0};
-    same(HERE, "reading with octets after", 0, branmuslin_read_packet(octets, OVER + 3, &packet));
+    same(HERE, "reading with octets after", 0, branmuslin_read_packet(octets, OVER + 3, &packet, &place));
     same(HERE, "packet.length", 1, packet.length);
+    same(HERE, "*place", 9, place);
     same(HERE, "Space data", 10, branmuslin_write_space(0, 0, 0, 0, 0, octets, OVER + 1, output, sizeof output, &number));
     same(HERE, "content", 10, branmuslin_write_encapsulation(0, 0, 0, octets, OVER, output, sizeof output, &number));
     same(HERE, "content", 10, branmuslin_write_encapsulation(2, 0, 0, octets, OVER + 1, output, sizeof output, &number));

@@ -70,20 +70,29 @@ static void openings(void)
     opened(HERE, 3, SETTINGS(0, 0, 0, 0, 64));
 }
 
-/* Those of the reader, which come before 12 to 17 and a repeat. */
+/* Those of the reader, which come before 12 to 17 and a repeat. The lane passes the place on; where 24 or 11 comes first there is none. */
 static void not_packets(void)
 {
     start();
     for (size_t length = 0; length < 18; length++)
-        takes(HERE, 0, (struct octets){packet(42, FIRST, 5, 2, part(0, 10)).at, length}, 300, REFUSED(1));
-    takes(HERE, 0, OCTETS(0x20), 300, REFUSED(2));
-    takes(HERE, 0, OCTETS(0x0F, 0xFF, 0xC0, 0x00, 0x00, 0x00, 0x00), 300, REFUSED(3)); /* 3 and 15 */
-    takes(HERE, 0, OCTETS(0xE9, 0x01), 300, REFUSED(4));                               /* 4 and 13 */
-    takes(HERE, 0, OCTETS(0xEB, 0x00, 0x00, 0x00, 0x00, 0x01, 0x00, 0x07), 300, REFUSED(5));
-    takes(HERE, 0, OCTETS(0xE4, 0xE4), 300, REFUSED(6)); /* 6 and 12 */
-    takes(HERE, 0, OCTETS(0xF9, 0x03, 0x00), 300, REFUSED(7));
+        takes(HERE, 0, (struct octets){packet(42, FIRST, 5, 2, part(0, 10)).at, length}, 300, REFUSED_AT(1, length));
+    takes(HERE, 0, OCTETS(0x20), 300, REFUSED_AT(2, 0));
+    takes(HERE, 0, OCTETS(0x0F, 0xFF, 0xC0, 0x00, 0x00, 0x00, 0x00), 300, REFUSED_AT(3, 0)); /* 3 and 15 */
+    takes(HERE, 0, OCTETS(0xE9, 0x01), 300, REFUSED_AT(4, 1));                               /* 4 and 13 */
+    takes(HERE, 0, OCTETS(0xEA, 0x00, 0x00, 0x03), 300, REFUSED_AT(4, 2));
+    takes(HERE, 0, OCTETS(0xEB, 0x00, 0x00, 0x00, 0x00, 0x00, 0x00, 0x07), 300, REFUSED_AT(4, 4));
+    takes(HERE, 0, OCTETS(0xEB, 0x00, 0x00, 0x00, 0x00, 0x01, 0x00, 0x07), 300, REFUSED_AT(5, 4));
+    takes(HERE, 0, OCTETS(0xE4, 0xE4), 300, REFUSED_AT(6, 0)); /* 6 and 12 */
+    takes(HERE, 0, OCTETS(0xF9, 0x03, 0x00), 300, REFUSED_AT(7, 0));
+    takes(HERE, 0, OCTETS(0xEA, 0x13, 0x00, 0x05, 0x55), 300, REFUSED_AT(7, 1));
+    takes(HERE, 0, OCTETS(0xEB, 0x03, 0x00, 0x01, 0x00, 0x00, 0x00, 0x09, 0x55), 300, REFUSED_AT(7, 1)); /* the extension, and the CCSDS field */
+    takes(HERE, 0, OCTETS(0xEB, 0x00, 0x01, 0x00, 0x00, 0x00, 0x00, 0x09, 0x55), 300, REFUSED_AT(7, 2));
+    takes(HERE, 0, OCTETS(0xEB, 0x00, 0x00, 0x01, 0x00, 0x00, 0x00, 0x09, 0x55), 300, REFUSED_AT(7, 3));
     takes(HERE, 2, NO_OCTETS, 300, REFUSED(11)); /* 11 and 1 */
     takes(HERE, 2, OCTETS(0x20), 300, REFUSED(11));
+    takes(HERE, 2, OCTETS(0xEA, 0x13, 0x00, 0x05, 0x55), 300, REFUSED(11)); /* 11 and 7 */
+    is.pool_length = want.pool_length = 16383;
+    takes(HERE, 0, OCTETS(0xEA, 0x13, 0x00, 0x05, 0x55), 300, REFUSED(24)); /* 24 and 7 */
 }
 
 /* The order: 24, 11, reading, 12 to 17, a repeat, 18, 19, 27, 20. */

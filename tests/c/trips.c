@@ -8,12 +8,13 @@ static size_t random_length(uint32_t trip, size_t longest)
     return next_random() % (trip % 50 == 0 ? longest : 600);
 }
 
-/* The octets must read as these fields. */
+/* The octets must read as these fields, with no octet at fault. */
 static void reads_as(struct place place, struct lent octets, struct branmuslin_packet fields)
 {
-    const struct lent packet = lend_noise(sizeof fields);
-    same(place, "reading", 0, branmuslin_read_packet(octets.octets, octets.length, (void *)packet.octets));
+    const struct lent packet = lend_noise(sizeof fields), fault = lend_noise(sizeof(size_t));
+    same(place, "reading", 0, branmuslin_read_packet(octets.octets, octets.length, (void *)packet.octets, (void *)fault.octets));
     holds(place, "*packet", packet, OCTETS_OF(fields));
+    holds(place, "*place", fault, NO_OCTETS);
 }
 
 static void space_trip(uint32_t trip)

@@ -17,9 +17,28 @@ static bool wrong(const char *fault)
     return chosen && strcmp(chosen, fault) == 0;
 }
 
-WRAPPED(uint8_t, read_packet, const uint8_t *octets, size_t length, struct branmuslin_packet *packet)
+/* Faults of the place of what reading refused. */
+static void misplace(uint8_t refusal, const uint8_t *octets, size_t length, size_t *place)
 {
-    const uint8_t refusal = REAL(read_packet)(octets, length, packet);
+    if ((refusal == 4 || refusal == 5) && wrong("read_packet-length-always-at-1"))
+        *place = 1;
+    if (refusal == 7 && *place == 1 && octets[0] % 4 == 3 && (octets[2] | octets[3]) != 0 && wrong("read_packet-later-of-two"))
+        *place = octets[2] != 0 ? 2 : 3;
+    if (refusal == 7 && *place == 3 && wrong("read_packet-ccsds-always-at-2"))
+        *place = 2;
+    if (refusal == 1 && length >= 6 && octets[0] < 0x20 && wrong("read_packet-octets-missing"))
+        *place = 7 + octets[4] * 256u + octets[5] - length;
+}
+
+WRAPPED(uint8_t, read_packet, const uint8_t *octets, size_t length, struct branmuslin_packet *packet, size_t *place)
+{
+    const size_t before = *place;
+    const uint8_t refusal = REAL(read_packet)(octets, length, packet, place);
+    misplace(refusal, octets, length, place);
+    if (refusal != 0 && wrong("read_packet-tells-no-place"))
+        *place = before;
+    if (refusal == 0 && wrong("read_packet-places-accepted"))
+        *place = 0;
     if (refusal != 0 && wrong("read_packet-sets-refused"))
         packet->length = 0;
     if (refusal == 0 && wrong("read_packet-another-length"))
@@ -136,6 +155,10 @@ WRAPPED(answer, take_packet, state s, size_t lane, const uint8_t *packet, size_t
     answer a = REAL(take_packet)(s, lane, packet, length, pool, pool_length, output, output_length);
     if (a.refusal == 0)
         spoil(&a, lane, pool, output, output_length);
+    if (a.refusal < 8 && wrong("take_packet-drops-place"))
+        a.place = 0;
+    if (a.refusal == 12 && wrong("take_packet-places-octets-after"))
+        a.place = length - 1;
     if (a.refusal == 19 && wrong("take_packet-gives-up-refused"))
         a.state.lanes[lane].broken++;
     if (a.refusal == 27 && wrong("take_packet-drops-old-group"))

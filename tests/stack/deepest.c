@@ -38,7 +38,8 @@ static const struct branmuslin_settings settings = {.station = 7, .apid = APID, 
 static bool read_packet(const struct call *call)
 {
     struct branmuslin_packet read;
-    return branmuslin_read_packet(packet, packet_length, &read) == BRANMUSLIN_DONE && read.length == call->length;
+    size_t place;
+    return branmuslin_read_packet(packet, packet_length, &read, &place) == BRANMUSLIN_DONE && read.length == call->length;
 }
 
 static bool write_space(const struct call *call)

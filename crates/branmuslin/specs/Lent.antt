@@ -7,7 +7,7 @@ use lib.Dec.{eqb}
 use Rattle.octets.specs.Output.{unlessRefused}
 use Rattle.packet.specs.Space.{packetType, secondary, apid, flags, count}
 use Rattle.packet.specs.Encapsulation.{protocol, user, extension}
-use Rattle.reading.specs.Reading.{isSpace, refusal, content, contentAt}
+use Rattle.reading.specs.Reading.{isSpace, refusal, place, content, contentAt}
 use Rattle.writing.specs.Space.{spaceOctets, spaceRefusal}
 use Rattle.writing.specs.Encapsulation.{encapOctets, encapRefusal}
 use Rattle.record.specs.Record.{recordIn, fields}
@@ -23,6 +23,10 @@ packetNumbers s =
 
 abbrev pub packetAfter : List ℕ → List ℕ → List ℕ
 packetAfter s old = unlessRefused (refusal s) (packetNumbers s) old
+
+-- the place, which belongs to the refusal
+abbrev pub placeAfter : List ℕ → ℕ → ℕ
+placeAfter s old = cond (eqb (refusal s) 0) old (place s)
 
 -- the octets written
 abbrev pub spaceWrittenAfter : ℕ → ℕ → ℕ → ℕ → ℕ → List ℕ → List ℕ → ℕ → ℕ

@@ -1,6 +1,7 @@
 // The C library: the functions that include/branmuslin.h declares, thin over the proved ones. Each returns the number of the refusal, or 0,
-// and where it refuses leaves everything that was lent to it as it was (but for the index that belongs to refusal 25 of a record file). A slice
-// is a pointer and a length in C; packet_type, field and out are type, data and output in the header.
+// and where it refuses leaves everything that was lent to it as it was (but for the index that belongs to refusal 25 of a record file, and the
+// place that belongs to 1 to 7 of a packet). A slice is a pointer and a length in C; packet_type, field and out are type, data and output in the
+// header.
 mod numbers;
 
 ghost use mathlib.Core.Path.{_≡_};
@@ -10,7 +11,7 @@ ghost use Rattle.writing.specs.Space.{spaceRefusal, spaceAfter};
 ghost use Rattle.writing.specs.Encapsulation.{encapRefusal, encapAfter};
 ghost use Rattle.record.specs.Reading.{recordRefusal, fileRefusal};
 ghost use Rattle.record.specs.Writing.{writingRefusal, recordAfter};
-ghost use Rattle.branmuslin.specs.Lent.{packetAfter, spaceWrittenAfter, encapWrittenAfter, handed, recordNumbersAfter, recordsAfter, indexAfter};
+ghost use Rattle.branmuslin.specs.Lent.{packetAfter, placeAfter, spaceWrittenAfter, encapWrittenAfter, handed, recordNumbersAfter, recordsAfter, indexAfter};
 use numbers::encapsulation_numbers;
 use numbers::space_numbers;
 use packet::Packet;
@@ -20,11 +21,16 @@ use record::RecordRead;
 use record::RecordWritten;
 use writing::Written;
 
-// Reads the packet at the front of the octets into the numbers of struct branmuslin_packet.
+// Reads the packet at the front of the octets into the numbers of struct branmuslin_packet; or tells the refusal with its place.
 #[no_mangle]
-pub extern "C" fn branmuslin_read_packet(octets: &[u8], numbers: &mut [u32; 11]) -> u8
+pub extern "C" fn branmuslin_read_packet(
+    octets: &[u8],
+    numbers: &mut [u32; 11],
+    place: &mut usize,
+) -> u8
     ensures { λ r. ⌜ r ≡ refusal (now (octets .entry)) ⌝ }
     ensures { λ _. ⌜ now (numbers .exit) ≡ packetAfter (now (octets .entry)) (now (numbers .entry)) ⌝ }
+    ensures { λ _. ⌜ now (place .exit) ≡ placeAfter (now (octets .entry)) (now (place .entry)) ⌝ }
 {
     let p = reading::read_packet(octets);
     match p {
@@ -49,7 +55,10 @@ pub extern "C" fn branmuslin_read_packet(octets: &[u8], numbers: &mut [u32; 11])
             *numbers = encapsulation_numbers(protocol, user, extension, header, n);
             0
         }
-        Packet::Refused(number) => number,
+        Packet::Refused { number, place: at } => {
+            *place = at as usize;
+            number
+        }
     }
 }
 

@@ -17,7 +17,7 @@ use Rattle.lane.specs.declared.Lane.{Lane}
 use Rattle.lane.proofs.Fine.{held-most}
 use Rattle.grouping.specs.declared.Added.{Added}
 use Rattle.grouping.specs.declared.Step.{Step}
-use Rattle.grouping.specs.declared.Step.the-variants.{Refuse, Repeat, Stray, Hold, Unit}
+use Rattle.grouping.specs.declared.Step.the-variants.{Refuse, Unread, Repeat, Stray, Hold, Unit}
 use Rattle.lane.specs.Lane.{closed, held}
 use Rattle.grouping.specs.Steps.{laneAfter}
 use Rattle.grouping.proofs.Planned.{of-either}
@@ -29,7 +29,7 @@ use Rattle.intake.specs.After.{releasedFrom, grown, marksAfter, poolAfter, grou
 use Rattle.calls.specs.Groups.{groupIn, Leaves}
 use Rattle.calls.proofs.Sound.{Sound, lane-fine, unless}
 use Rattle.calls.proofs.Marks.{kept, blocksKept, grows}
-use Rattle.calls.proofs.Steps.{Stepped, refuses, repeats, strays, ends, holds, stepped, group-grows, after-step}
+use Rattle.calls.proofs.Steps.{Stepped, refuses, unread, repeats, strays, ends, holds, stepped, group-grows, after-step}
 
 -- every octet of a group has its place
 pub has-places : (s : State) → Sound s → (j : ℕ) → j < 8 → Has (s .marks) j (laneAt s j .octets)
@@ -84,7 +84,8 @@ module _ (s : State) (k : Sound s) (i j : ℕ) (other : i ≡ j → ⊥) (small 
   after-leaves : (p : List ℕ) (octets room : ℕ) {d : Step} → Stepped s i p octets room d
       → Leaves j s pool (answered s i d .state) (poolAfter (s .marks) i (laneAt s i) d (userOf s i p) pool)
   unfolding laneAfter marksAfter poolAfter
-  after-leaves p octets room (refuses n) = leaves _ (s .marks) pool refl
+  after-leaves p octets room (refuses n h) = leaves _ (s .marks) pool refl
+  after-leaves p octets room (unread u) = leaves _ (s .marks) pool refl
   after-leaves p octets room repeats = leaves _ (s .marks) pool refl
   after-leaves p octets room (strays a f) = leaves _ _ pool (released-other s i j (laneAt s j .octets) other small fits pool)
   after-leaves p octets room (ends a on n f e h) = leaves _ _ pool (released-other s i j (laneAt s j .octets) other small fits pool)
@@ -160,6 +161,7 @@ pool-length s i p room pool = of-step (packetStep s i p (length pool) room)
   where
     of-step : (d : Step) → length (poolAfter (s .marks) i (laneAt s i) d (userOf s i p) pool) ≡ length pool
     of-step (Refuse n) = refl
+    of-step (Unread n place) = refl
     of-step Repeat = refl
     of-step (Stray a) = refl
     of-step (Hold a on n) = stored-length (grown (s .marks) i (laneAt s i) on n) i pool (cond on (laneAt s i .octets) 0) (userOf s i p)

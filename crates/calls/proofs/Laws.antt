@@ -18,7 +18,7 @@ use Rattle.marks.proofs.Finding.{by-case, never-both}
 use Rattle.lane.specs.declared.Settings.{Settings}
 use Rattle.lane.specs.declared.Lane.{Lane}
 use Rattle.grouping.specs.declared.Added.{Added}
-use Rattle.grouping.specs.declared.Step.the-variants.{Refuse, Repeat, Stray, Hold, Unit}
+use Rattle.grouping.specs.declared.Step.the-variants.{Refuse, Unread, Repeat, Stray, Hold, Unit}
 use Rattle.lane.specs.Lane.{held}
 use Rattle.grouping.specs.Grouping.{missingBefore}
 use Rattle.grouping.specs.Steps.{laneAfter}
@@ -56,13 +56,17 @@ fresh-sound = good freshState fresh
 -- ---- A refusal returns its number and leaves state, pool and output untouched: of any state, sound or not
 module _ (s : State) (i : ℕ) where
   module _ (p pool out : List ℕ) where
-    abbrev Untouched : Type 0
+    abbrev pub Untouched : Type 0
     Untouched =
         (taking s i p (length pool) (length out) .state ≡ s) × (takingPool s i p (length out) pool ≡ pool) × (takingOut s i p pool out ≡ out)
 
     pub refused-leaves : (n : ℕ) → packetStep s i p (length pool) (length out) ≡ Refuse n → Untouched
     unfolding taking takingPool takingOut laneAfter marksAfter poolAfter outAfter
     refused-leaves n e = rw e (sym (same-state s i), refl, refl)
+
+    pub unread-leaves : (n q : ℕ) → packetStep s i p (length pool) (length out) ≡ Unread n q → Untouched
+    unfolding taking takingPool takingOut laneAfter marksAfter poolAfter outAfter
+    unread-leaves n q e = rw e (sym (same-state s i), refl, refl)
 
     -- the answer is Repeat: nothing changes
     pub repeat-leaves : packetStep s i p (length pool) (length out) ≡ Repeat → Untouched

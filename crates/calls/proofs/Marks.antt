@@ -55,6 +55,7 @@ module _ (marks : List ℕ) (i : ℕ) (l : Lane) where
   pub marks-length : (d : Step) → length (marksAfter marks i l d) ≡ length marks
   unfolding marksAfter
   marks-length (step.Refuse k) = refl
+  marks-length (step.Unread k place) = refl
   marks-length step.Repeat = refl
   marks-length (step.Stray a) = released-length
   marks-length (step.Hold a on n) = grown-length on n

@@ -5,7 +5,7 @@ use mathlib.Core.Path.{_≡_, refl, sym, _∙_}
 use mathlib.Core.Bool.{Bool, true, false, cond, not, _&&_}
 use mathlib.Core.List.{List, [], _∷_, _++_}
 use native.Mathlib.Omega.{arith}
-use borrow.Author.Tests.{le-ltb, eqb-true, eqb-false, eq-eqb, ne-eqb, not-false}
+use borrow.Author.Tests.{le-ltb, eqb-true, eqb-false, eq-eqb, ne-eqb, not-true, not-false}
 use lib.Dec.{eqb, ltb, leb}
 use lib.ListN.{getD, set}
 use Rattle.octets.specs.Order.{Test, _gives_, first, numbersOf}
@@ -25,6 +25,7 @@ use Rattle.grouping.specs.Grouping.{repeats, goesOn, addedFrom}
 use Rattle.grouping.specs.Plans.{holdPlan, unitPlan, groupingPlan, acceptedPlan, packetPlan}
 use Rattle.lane.proofs.Fine.{none-held}
 use Rattle.grouping.specs.declared.Terms.{Terms}
+use Rattle.grouping.proofs.Accepted.{fault-read}
 use Rattle.state.specs.declared.State.{State}
 use Rattle.state.specs.State.{laneAt, within, unsound}
 use Rattle.state.proofs.Within.{share-fits}
@@ -121,7 +122,8 @@ ordered s shape i p octets room =
     let l : Lane = laneAt s i in
     either (unsound s octets) (λ e. simp e)
     (λ e. simp e (either (not (l .opened)) (λ a. simp a)
-    (λ a. simp a (rw (faults (termsOf l) p _) (either (not (eqb (fault (termsOf l) p) 0)) (λ b. simp b)
+    (λ a. simp a (rw (faults (termsOf l) p _) (either (not (eqb (refusal p) 0)) (λ r. rw (fault-read (termsOf l) p (eqb-false _ _ (not-true _ r))) (simp r))
+    (λ r. simp r (either (not (eqb (fault (termsOf l) p) 0)) (λ b. simp b)
     (λ b. simp b (either (repeats l (count p)) (λ c. simp c)
     (λ c. simp c (either (leb mostPackets (l .packets)) (λ d. simp d)
-    (λ d. simp d (grouping (s .lanes) i room (share-fits (s .lanes) i (not-false _ a) 0 (omega (arith, none-held)) (is-sound s shape (then-sound s octets e .0) .room)) p)))))))))))
+    (λ d. simp d (grouping (s .lanes) i room (share-fits (s .lanes) i (not-false _ a) 0 (omega (arith, none-held)) (is-sound s shape (then-sound s octets e .0) .room)) p)))))))))))))

@@ -8,13 +8,14 @@ use native.Mathlib.Omega.{arith}
 use lib.ListN.{length, set}
 use lib.Seq.{set-getD}
 use Rattle.octets.proofs.Order.{either}
+use Rattle.reading.specs.Reading.{refusal, place}
 use Rattle.marks.specs.Blocks.{blocksFor}
 use Rattle.marks.specs.Matching.{sum}
 use Rattle.lane.specs.declared.Lane.{Lane}
 use Rattle.lane.proofs.Fine.{none-held, held-most}
 use Rattle.grouping.specs.declared.Added.{Added}
 use Rattle.grouping.specs.declared.Step.{Step}
-use Rattle.grouping.specs.declared.Step.the-variants.{Refuse, Repeat, Stray, Hold, Unit}
+use Rattle.grouping.specs.declared.Step.the-variants.{Refuse, Unread, Repeat, Stray, Hold, Unit}
 use Rattle.grouping.specs.declared.Plan.{Plan}
 use Rattle.lane.specs.Lane.{held, holding, fine}
 use Rattle.grouping.specs.Steps.{laneAfter}
@@ -40,7 +41,8 @@ pub record Fits (s : State) (i : ℕ) (d : Step) : Type 0 where
   pub room : within (set (s .lanes) i (laneAfter (laneAt s i) d)) ≡ true
 
 pub data Stepped (s : State) (i : ℕ) (p : List ℕ) (octets room : ℕ) : Step → Type 0 where
-  refuses : (k : ℕ) → Stepped s i p octets room (Refuse k)
+  refuses : (k : ℕ) → 8 ≤ k → Stepped s i p octets room (Refuse k)
+  unread : (refusal p ≡ 0 → ⊥) → Stepped s i p octets room (Unread (refusal p) (place p))
   repeats : Stepped s i p octets room Repeat
   strays : (a : Added) → Fits s i (Stray a) → Stepped s i p octets room (Stray a)
   ends : (a : Added) (on : Bool) (n : ℕ) → Fits s i (Unit a on n) → n ≡ cond on (laneAt s i .octets) 0 + length (userOf s i p) → n ≤ room → Stepped s i p octets room (Unit a on n)
@@ -56,7 +58,8 @@ module _ (s : State) (k : Sound s) (i : ℕ) (p : List ℕ) (octets room : ℕ) 
 
   settled : {d : Plan} → Planned own p room d → Stepped s i p octets room (settle (s .lanes) i d)
   unfolding settle laneAfter
-  settled (plan.refuses n) = refuses n
+  settled (plan.refuses n h) = refuses n h
+  settled (plan.unread u) = unread u
   settled plan.repeats = repeats
   settled (plan.strays a o f g) = strays a (record { small = opened-small s k i o; good = g; room = room-empty (laneAfter own (Stray a)) o o refl refl })
   settled (plan.ends a on n o f g e h) = ends a on n (record { small = opened-small s k i o; good = g; room = room-empty (laneAfter own (Unit a on n)) o o refl refl })
@@ -65,12 +68,12 @@ module _ (s : State) (k : Sound s) (i : ℕ) (p : List ℕ) (octets room : ℕ) 
       of-either (Stepped s i p octets room) (within (set (s .lanes) i (holding own n)))
       (λ r. holds a on n (record { small = opened-small s k i o; good = g; room = same-need (s .lanes) i (holding own n) (laneAfter own (Hold a on n)) (need-open (laneAfter own (Hold a on n)) o ∙ sym (need-open (holding own n) o)) r })
       (omega (arith, accepted-data (termsOf own) p f .1)))
-      (λ r. refuses 27)
+      (λ r. refuses 27 (omega arith))
 
   pub stepped : Stepped s i p octets room (packetStep s i p octets room)
   unfolding packetStep
   stepped =
-      of-either (Stepped s i p octets room) (unsound s octets) (λ e. refuses 24)
+      of-either (Stepped s i p octets room) (unsound s octets) (λ e. refuses 24 (omega arith))
       (λ e. settled (planned own p room (lane-fine s k i)))
 
 -- a step other than 24 was taken with a pool of 16,384 octets
@@ -104,7 +107,8 @@ module _ (s : State) (k : Sound s) (i : ℕ) where
 
   pub after-step : (p : List ℕ) (octets room : ℕ) {d : Step} → Stepped s i p octets room d → Sound (answered s i d .state)
   unfolding laneAfter marksAfter
-  after-step p octets room (refuses n) = stays
+  after-step p octets room (refuses n h) = stays
+  after-step p octets room (unread u) = stays
   after-step p octets room repeats = stays
   after-step p octets room (strays a f) = emptied s k i (f .small) (laneAfter (laneAt s i) (Stray a)) (f .good) (f .room) refl
   after-step p octets room (ends a on n f e h) = emptied s k i (f .small) (laneAfter (laneAt s i) (Unit a on n)) (f .good) (f .room) refl

@@ -12,7 +12,7 @@ use Rattle.marks.specs.Blocks.{blocksFor}
 use Rattle.lane.specs.declared.Lane.{Lane}
 use Rattle.lane.specs.Lane.{closed, holding}
 use Rattle.grouping.specs.declared.Step.{Step}
-use Rattle.grouping.specs.declared.Step.the-variants.{Refuse, Repeat, Stray, Hold, Unit}
+use Rattle.grouping.specs.declared.Step.the-variants.{Refuse, Unread, Repeat, Stray, Hold, Unit}
 use Rattle.grouping.specs.Packets.{termsOf, laneTests, userOctets}
 use Rattle.grouping.specs.Grouping.{repeats, goesOn}
 use Rattle.state.specs.declared.State.{State}
@@ -21,6 +21,7 @@ use Rattle.state.specs.State.{within, unsound}
 -- a packet's refusal, and 0 for none
 abbrev pub refusalOf : Step → ℕ
 refusalOf (Refuse k) = k
+refusalOf (Unread k place) = k
 refusalOf Repeat = 0
 refusalOf (Stray a) = 0
 refusalOf (Hold a on n) = 0

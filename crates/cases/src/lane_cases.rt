@@ -1,6 +1,7 @@
 // Cases of lanes: calls from the state that the lines before made.
 use crate::line::at;
 use crate::octet_cases::say_record;
+use crate::octet_cases::say_unread;
 use crate::say::HELD;
 use crate::say::OK;
 use crate::say::REFUSED;
@@ -83,6 +84,7 @@ fn say_step(k: usize, missing: u16, given_up: bool) {
 fn say_answer(answer: Answer, out: &[u8]) {
     match answer {
         Answer::Refused(number) => say_with(REFUSED, number as u64),
+        Answer::Unread { number, place } => say_unread(number, place),
         Answer::Repeat => say_word(REPEAT),
         Answer::Stray { missing, given_up } => say_step(STRAY, missing, given_up),
         Answer::Held { missing, given_up } => say_step(HELD, missing, given_up),

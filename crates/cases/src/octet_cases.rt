@@ -20,6 +20,12 @@ use packet::Packet;
 use record::RecordFile;
 use record::RecordRead;
 
+// A refusal of reading, with its place.
+pub(crate) fn say_unread(number: u8, place: u32) {
+    say_with(REFUSED, number as u64);
+    say_number(place as u64);
+}
+
 // The answer in the order of the reader's fields.
 fn say_packet(p: Packet) {
     match p {
@@ -55,7 +61,7 @@ fn say_packet(p: Packet) {
             header as u64,
             octets as u64,
         ),
-        Packet::Refused(number) => say_with(REFUSED, number as u64),
+        Packet::Refused { number, place } => say_unread(number, place),
     }
 }
 
@@ -70,6 +76,9 @@ fn say_walk(s: &[u8]) {
     say_number(walked.at as u64);
     say_number(walked.packets as u64);
     say_number(walked.refused as u64);
+    if walked.refused != 0 {
+        say_number(walked.place as u64);
+    }
 }
 
 pub(crate) fn say_record(s: &[u8]) {

@@ -11,6 +11,7 @@ use lib.ListN.{length, getD, set}
 use lib.Seq.{getD-set-other}
 use Rattle.octets.proofs.Order.{either, both}
 use Rattle.packet.specs.Space.{flags, count}
+use Rattle.reading.specs.Reading.{refusal}
 use Rattle.record.specs.Record.{mostPackets}
 use Rattle.marks.specs.Blocks.{free, mark, blocksFor}
 use Rattle.pool.specs.Octets.{place, stored}
@@ -22,6 +23,7 @@ use Rattle.grouping.specs.declared.Step.the-variants.{Hold}
 use Rattle.lane.specs.Lane.{held, holding, closed}
 use Rattle.grouping.specs.Packets.{termsOf, fault, userOctets}
 use Rattle.grouping.specs.Grouping.{repeats, goesOn}
+use Rattle.grouping.proofs.Accepted as before
 use Rattle.grouping.specs.Plans.{holdPlan, groupingPlan, acceptedPlan, packetPlan}
 use Rattle.grouping.specs.Steps.{laneAfter}
 use Rattle.lane.proofs.Fine.{none-held}
@@ -40,7 +42,7 @@ use Rattle.state.specs.Clauses.{markAt}
 use Rattle.demands.specs.Demand3.{NothingAmiss, HasRoom, Belongs, marksFor, placeFor, WritesInItsOwn, UsedAgain}
 use Rattle.demands.specs.Laws.{OctetsStay}
 use Rattle.calls.proofs.Sound.{Sound}
-use Rattle.calls.proofs.Steps.{Stepped, refuses, repeats as again, strays, ends, holds, stepped}
+use Rattle.calls.proofs.Steps.{Stepped, refuses, unread, repeats as again, strays, ends, holds, stepped}
 use Rattle.demands.proofs.Reached.{after-sound, reached-sound}
 use Rattle.rule.proofs.Slots.{Slot}
 use Rattle.demands.proofs.View.{stepFor, run-size, settled, took-reply, took-slot}
@@ -62,7 +64,8 @@ module _ (s : State) (i : ℕ) (p pool : List ℕ) (at octets room : ℕ) where
       → ((k : ℕ) → k < laneAfter (laneAt s i) d .octets → place (marksAfter (s .marks) i (laneAt s i) d) i k ≡ at → ⊥)
       → getD (poolAfter (s .marks) i (laneAt s i) d (userOf s i p) pool) at 0 ≡ getD pool at 0
   unfolding poolAfter marksAfter laneAfter
-  step-stays (refuses n) other = refl
+  step-stays (refuses n h) other = refl
+  step-stays (unread u) other = refl
   step-stays again other = refl
   step-stays (strays a f) other = refl
   step-stays (ends a on n f e h) other = refl
@@ -100,7 +103,7 @@ module _ (ls : List Lane) (i : ℕ) (p : List ℕ) (room : ℕ) where
   unfolding packetPlan acceptedPlan groupingPlan wouldGroup
   holds-then open′ sound new few most beside some =
       let user : ℕ = userOctets (own .settings) p in
-      simp (open′, sound, new, lt-leb mostPackets (own .packets) few)
+      simp (open′, eq-eqb (refusal p) 0 (before.accepted (termsOf own) p sound .read), sound, new, lt-leb mostPackets (own .packets) few)
       (either (eqb (flags p) 1)
       (λ f. let z = eqb-true (flags p) 1 f in simp z (fits-then _ false user (simp z at most) (simp z at beside)))
       (λ f. either (eqb (flags p) 0 && goesOn own (flags p) (count p))

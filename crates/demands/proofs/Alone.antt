@@ -24,7 +24,7 @@ use Rattle.grouping.specs.Packets.{userData}
 use Rattle.grouping.specs.Plans.{packetPlan}
 use Rattle.grouping.specs.Steps.{laneAfter}
 use Rattle.lane.proofs.Fine.{is-fine, is-legal, none-held}
-use Rattle.grouping.proofs.Planned.{Planned, planned, refuses, repeats, strays, ends, holds}
+use Rattle.grouping.proofs.Planned.{Planned, planned, refuses, unread, repeats, strays, ends, holds}
 use Rattle.state.specs.declared.State.{State}
 use Rattle.state.specs.State.{freshState, laneAt, within}
 use Rattle.state.proofs.Soundness.{opened-small}
@@ -64,7 +64,8 @@ module _ (xs ys : List Lane) (i : ℕ) (same : getD xs i closed ≡ getD ys i cl
 
   same-step : (p : List ℕ) (room : ℕ) {d : Plan} → Planned theirs p room d → InShare (laneAfter theirs (settle ys i d)) → settle xs i d ≡ settle ys i d
   unfolding settle laneAfter
-  same-step p room (refuses n) w = refl
+  same-step p room (refuses n h) w = refl
+  same-step p room (unread u) w = refl
   same-step p room repeats w = refl
   same-step p room (strays a on f g) w = refl
   same-step p room (ends a on n op f g e h) w = refl

@@ -1,12 +1,12 @@
 -- Along every run a lane with its group is the one that the grouping rule makes of its past, and each reply is the rule's word or a refusal for its cause: what
 -- is known of one call, carried through the run.
-use Prim.Native.Nat.{ℕ, zero, suc, _<_}
+use Prim.Native.Nat.{ℕ, zero, suc, _≤_, _<_}
 use mathlib.Core.Path.{_≡_, refl, sym, ap, ap₂, subst, _∙_}
 use mathlib.Core.Bool.{Bool, cond}
 use mathlib.Core.List.{List, [], _∷_}
 use mathlib.Core.Option.{Option, none, some}
 use native.Mathlib.Omega.{arith}
-use borrow.Author.Tests.{eqb-true, eqb-false, ne-eqb}
+use borrow.Author.Tests.{eqb-true, eqb-false, ne-eqb, le-leb, lt-leb}
 use lib.Dec.{eqb}
 use lib.ListN.{length, getD}
 use Rattle.octets.specs.Octets.{one}
@@ -14,6 +14,8 @@ use Rattle.octets.specs.Order.{first, numbersOf}
 use Rattle.octets.specs.Output.{leading, unlessRefused, put, outputAfter}
 use Rattle.octets.proofs.Order.{either}
 use Rattle.packet.specs.Space.{counts}
+use Rattle.reading.specs.Reading.{refusal, place}
+use Rattle.reading.proofs.Exactly.{refusal-most}
 use Rattle.record.specs.Record.{recordOctets}
 use Rattle.lane.specs.declared.Settings.{Settings}
 use Rattle.lane.specs.declared.Lane.{Lane}
@@ -90,9 +92,18 @@ replyAfter past p out d = toPacket (answerOf d) (outFrom (octetsIn (group (accep
 abbrev Steps : Past → ℕ → List ℕ → List ℕ → Step → Type 0
 Steps past i p out d = Follows past (takes i p out) (slotAfter (slotFrom past) p d) (replyAfter past p out d)
 
-refused-follows : (past : Past) (i : ℕ) (p out : List ℕ) (k : ℕ) → (k ≡ 0 → ⊥) → Steps past i p out (step.Refuse k)
+refused-follows : (past : Past) (i : ℕ) (p out : List ℕ) (k : ℕ) → 8 ≤ k → Steps past i p out (step.Refuse k)
 unfolding laneAfter one
-refused-follows past i p out k not0 = let e = ne-eqb k 0 not0 in record { slot = simp e; word = simp e; told = simp e (omega arith) }
+refused-follows past i p out k high =
+    let e = ne-eqb k 0 (λ z. omega arith) in
+    record { slot = simp e; word = simp (e, lt-leb k 7 (omega arith)); told = simp e (omega arith) }
+
+-- the reader's number is one of 1 to 7, and its place the one that belongs to it
+unread-follows : (past : Past) (i : ℕ) (p out : List ℕ) → (refusal p ≡ 0 → ⊥) → Steps past i p out (step.Unread (refusal p) (place p))
+unfolding laneAfter one place
+unread-follows past i p out some′ =
+    let e = ne-eqb (refusal p) 0 some′ in
+    record { slot = simp e; word = simp (e, le-leb (refusal p) 7 (refusal-most p)); told = simp e (omega arith) }
 
 module _ (s : Settings) (ts : List Taken) (i : ℕ) (p out : List ℕ) where
   abbrev ps : List Taken
@@ -103,7 +114,8 @@ module _ (s : Settings) (ts : List Taken) (i : ℕ) (p out : List ℕ) where
 
   packet-follows : {d : Step} → ruled.Follows s ps p out d → Steps (since s ts) i p out d
   unfolding laneAfter accepted one answerTo
-  packet-follows (ruled.refuses k not0) = refused-follows (since s ts) i p out k not0
+  packet-follows (ruled.refuses k high) = refused-follows (since s ts) i p out k high
+  packet-follows (ruled.unread some′) = unread-follows (since s ts) i p out some′
   packet-follows (ruled.repeats-it e) = record { slot = simp e; word = simp e; told = simp e (omega arith) }
   packet-follows (ruled.accepts d new slot answer output) =
       let t = word-tells (unit ps q) (group (q ∷ ps)) (missing ps q) (givesUp ps q) in
@@ -118,7 +130,7 @@ module _ (s : Settings) (ts : List Taken) (i : ℕ) (p out : List ℕ) where
 -- ---- a call, where the lane that it names is its past's
 of-past : (past : Past) (i : ℕ) (p out : List ℕ) (ls : List Lane) → laneFrom past .last < counts → Steps past i p out (settle ls i (packetPlan (laneFrom past) p (length out)))
 unfolding packetPlan settle
-of-past shut i p out ls few = refused-follows shut i p out 11 (λ z. omega arith)
+of-past shut i p out ls few = refused-follows shut i p out 11 (omega arith)
 of-past (since s ts) i p out ls few = packet-follows s ts i p out (planned s (accepted ts) few p out ls i)
 
 module _ (x : Handed) (k : Sound (x .state)) (size : length (x .pool) ≡ 16384) (past : Past) where
@@ -137,6 +149,7 @@ module _ (x : Handed) (k : Sound (x .state)) (size : length (x .pool) ≡ 16384)
   -- ---- it is refused exactly for the paper's causes, judged on the lanes
   step-number : (d : Step) → leading (told (answerOf d)) ≡ refusalOf d
   step-number (step.Refuse n) = refl
+  step-number (step.Unread n q) = refl
   step-number step.Repeat = refl
   step-number (step.Stray a) = refl
   step-number (step.Hold a on n) = refl

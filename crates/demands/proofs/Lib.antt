@@ -13,3 +13,4 @@ pub mod Demand3
 pub mod InShare
 pub mod RunLaws
 pub mod WhoseFault
+pub mod WhichOctet

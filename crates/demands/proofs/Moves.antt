@@ -121,7 +121,8 @@ module _ (s : State) (k : Sound s) (i b : ℕ) (block : b < 64) where
 
   step-moves : (p : List ℕ) (octets room : ℕ) {d : Step} → Stepped s i p octets room d → Moves (marksAfter (s .marks) i own d)
   unfolding marksAfter
-  step-moves p octets room (now.refuses n) = inl refl
+  step-moves p octets room (now.refuses n h) = inl refl
+  step-moves p octets room (now.unread u) = inl refl
   step-moves p octets room now.repeats = inl refl
   step-moves p octets room (now.strays a f) = released-moves (f .small)
   step-moves p octets room (now.ends a on n f e h) = released-moves (f .small)

@@ -13,6 +13,7 @@ use lib.Seq.{getD-set-same}
 use Rattle.octets.proofs.Order.{either}
 use Rattle.packet.specs.Space.{flags}
 use Rattle.packet.specs.Space as space
+use Rattle.reading.specs.Reading.{refusal}
 use Rattle.record.specs.Record.{mostPackets}
 use Rattle.marks.specs.Blocks.{mark, blocksFor, find}
 use Rattle.pool.specs.Octets.{place}
@@ -112,7 +113,7 @@ freed start calls c b its shut =
     (only-its-own start calls c b (its .0))
 
 -- what was answered is what the step tells
-step-told : (x : Handed) (i : ℕ) (p out left : List ℕ) (a : Answer) → reply x (takes i p out) ≡ toPacket a left
+pub step-told : (x : Handed) (i : ℕ) (p out left : List ℕ) (a : Answer) → reply x (takes i p out) ≡ toPacket a left
     → answerOf (packetStep (x .state) i p (length (x .pool)) (length out)) ≡ a
 unfolding reply taking
 step-told x i p out left a e = cc
@@ -120,6 +121,7 @@ step-told x i p out left a e = cc
 -- ---- flags 1 begin a group and flags 0 go on with one: a step that holds goes on unless the flags are 1
 abbrev Flagged : List ℕ → Step → Type 0
 Flagged p (step.Refuse k) = Unit {0}
+Flagged p (step.Unread k q) = Unit {0}
 Flagged p step.Repeat = Unit {0}
 Flagged p (step.Stray a) = Unit {0}
 Flagged p (step.Hold a on n) = on ≡ not (eqb (flags p) 1)
@@ -145,13 +147,14 @@ module _ (ls : List Lane) (i : ℕ) (l : Lane) (p : List ℕ) (room : ℕ) where
       let user : ℕ = userOctets (l .settings) p in
       let a : Added = addedFrom l (flags p) (space.count p) in
       of-either Says (not (l .opened)) (λ e. tt)
+      (λ e. of-either Says (not (eqb (refusal p) 0)) (λ e. tt)
       (λ e. of-either Says (not (eqb (fault (termsOf l) p) 0)) (λ e. tt)
       (λ e. of-either Says (repeats l (space.count p)) (λ e. tt)
       (λ e. of-either Says (leb mostPackets (l .packets)) (λ e. tt)
       (λ e. of-either Says (eqb (flags p) 3) (λ e. to-end a false user)
       (λ e. of-either Says (eqb (flags p) 1) (λ f. to-hold a false user (simp f))
       (λ f. of-either Says (not (goesOn l (flags p) (space.count p))) (λ e. tt)
-      (λ e. of-either Says (eqb (flags p) 0) (λ e. to-hold a true (l .octets + user) (simp f)) (λ e. to-end a true (l .octets + user)))))))))
+      (λ e. of-either Says (eqb (flags p) 0) (λ e. to-hold a true (l .octets + user) (simp f)) (λ e. to-end a true (l .octets + user))))))))))
 
 step-flagged : (s : State) (i : ℕ) (p : List ℕ) (octets room : ℕ) → Flagged p (packetStep s i p octets room)
 unfolding packetStep
@@ -175,7 +178,8 @@ module _ (s : State) (k : Sound s) (i : ℕ) (p : List ℕ) where
 
     held-lowest : {d : Step} {m : ℕ} {givenUp : Bool} → Stepped s i p octets room d → Flagged p d → answerOf d ≡ Held m givenUp → Lowest d
     unfolding marksAfter laneAfter
-    held-lowest (now.refuses n) flagged told = cc
+    held-lowest (now.refuses n h) flagged told = cc
+    held-lowest (now.unread u) flagged told = cc
     held-lowest now.repeats flagged told = cc
     held-lowest (now.strays a f) flagged told = cc
     held-lowest (now.ends a on n f e h) flagged told = cc

@@ -11,16 +11,18 @@ use lib.Dec.{eqb, ltb, leb}
 use lib.ListN.{length, getD, set}
 use Rattle.octets.proofs.Order.{either, both}
 use Rattle.packet.specs.Space.{counts, flags, count}
+use Rattle.reading.specs.Reading.{refusal}
 use Rattle.record.specs.Record.{mostPackets, recordSize}
 use Rattle.marks.specs.Blocks.{blocksFor}
 use Rattle.lane.specs.declared.Lane.{Lane}
 use Rattle.grouping.specs.declared.Added.{Added}
 use Rattle.grouping.specs.declared.Step.{Step}
-use Rattle.grouping.specs.declared.Step.the-variants.{Refuse, Repeat, Stray, Hold}
+use Rattle.grouping.specs.declared.Step.the-variants.{Refuse, Unread, Repeat, Stray, Hold}
 use Rattle.grouping.specs.declared.Step.the-variants as step
 use Rattle.lane.specs.Lane.{held, holding, illegal, talliesPossible, fine, closed}
 use Rattle.grouping.specs.Packets.{termsOf, fault, userOctets}
 use Rattle.grouping.specs.Grouping.{repeats, goesOn, addedFrom}
+use Rattle.grouping.proofs.Accepted.{accepted}
 use Rattle.grouping.specs.Plans.{holdPlan, unitPlan, groupingPlan, acceptedPlan, packetPlan}
 use Rattle.state.specs.declared.State.{State}
 use Rattle.intake.specs.declared.Answer.the-variants as answer
@@ -43,6 +45,7 @@ use Rattle.demands.proofs.Followed.{lane-is, lanes-are}
 -- ---- a step that is no refusal
 abbrev Taken : Step → Type 0
 Taken (Refuse k) = ⊥
+Taken (Unread k q) = ⊥
 Taken Repeat = Unit {0}
 Taken (Stray a) = Unit {0}
 Taken (Hold a on n) = Unit {0}
@@ -50,6 +53,7 @@ Taken (step.Unit a on n) = Unit {0}
 
 taken-told : (d : Step) (out : List ℕ) → Taken d → isRefused (toPacket (answerOf d) out) ≡ false
 taken-told (Refuse k) out h = absurd h
+taken-told (Unread k q) out h = absurd h
 taken-told Repeat out h = refl
 taken-told (Stray a) out h = refl
 taken-told (Hold a on n) out h = refl
@@ -92,7 +96,7 @@ module _ (ls : List Lane) (i : ℕ) (p : List ℕ) (room : ℕ) where
 
   takes-it : own .opened ≡ true → fault (termsOf own) p ≡ 0 → Taken (settle ls i (acceptedPlan own (flags p) (count p) (userOctets (own .settings) p) room)) → Taken (settle ls i (packetPlan own p room))
   unfolding packetPlan
-  takes-it open′ sound h = simp (open′, sound) h
+  takes-it open′ sound h = simp (open′, eq-eqb (refusal p) 0 (accepted (termsOf own) p sound .read), sound) h
 
   accepts : own .packets < mostPackets → Taken (settle ls i (groupingPlan own (flags p) (count p) (userOctets (own .settings) p) room)) → Taken (settle ls i (acceptedPlan own (flags p) (count p) (userOctets (own .settings) p) room))
   unfolding acceptedPlan settle
@@ -125,7 +129,7 @@ module _ (start : Start) (calls : List Call) (i : ℕ) (packet out : List ℕ) w
       → (reply x (takes i packet out) ≡ toPacket answer.Repeat out) × (runs.after x (takes i packet out) ≡ x)
   unfolding packetPlan acceptedPlan settle runs.after taking takingPool
   again open′ sound same =
-      let step : stepFor x i packet out ≡ Repeat = planned ∙ simp (open′, sound, same) in
+      let step : stepFor x i packet out ≡ Repeat = planned ∙ simp (open′, eq-eqb (refusal packet) 0 (accepted (termsOf l) packet sound .read), sound, same) in
       let left = repeat-leaves (x .state) i packet (x .pool) out step in
       (took-reply x i packet out ∙ rw step, ap₂ (λ (s : State) (p : List ℕ). record { state = s; pool = p }) (left .0) (left .1))
 

@@ -15,7 +15,7 @@ use Rattle.pool.specs.Octets.{gathered}
 use Rattle.lane.specs.declared.Settings.{Settings}
 use Rattle.lane.specs.declared.Lane.{Lane}
 use Rattle.grouping.specs.declared.Step.{Step}
-use Rattle.grouping.specs.declared.Step.the-variants.{Refuse, Repeat, Stray, Hold, Unit}
+use Rattle.grouping.specs.declared.Step.the-variants.{Refuse, Unread, Repeat, Stray, Hold, Unit}
 use Rattle.lane.specs.Lane.{closed}
 use Rattle.grouping.specs.Packets.{userData}
 use Rattle.grouping.specs.Plans.{packetPlan}
@@ -29,7 +29,7 @@ use Rattle.rule.proofs.Slots.{Slot, without, outFrom, slotAfter}
 use Rattle.demands.specs.Runs.{ours, Handed, Call, opens, takes, closes, toPacket, reply, after, run, laneOf}
 use Rattle.calls.specs.Groups.{groupIn, Leaves}
 use Rattle.calls.proofs.Sound.{Sound, not-unsound}
-use Rattle.calls.proofs.Steps.{Stepped, refuses, repeats, strays, ends, holds, stepped}
+use Rattle.calls.proofs.Steps.{Stepped, refuses, unread, repeats, strays, ends, holds, stepped}
 use Rattle.calls.proofs.Calls.{opened-at, closed-small}
 use Rattle.demands.proofs.Reached.{after-shaped}
 use Rattle.calls.proofs.Groups.{opening-leaves, closing-leaves, taking-leaves, held-gathered, pool-length}
@@ -61,7 +61,8 @@ module _ (s : State) (k : Sound s) (i : ℕ) (p pool : List ℕ) (size : length 
   step-slot : {octets room : ℕ} {d : Step} → Stepped s i p octets room d
       → slotAt (answered s i d .state) (poolAfter (s .marks) i (laneAt s i) d (userOf s i p) pool) i ≡ slotAfter (slotAt s pool i) p d
   unfolding laneAfter marksAfter poolAfter
-  step-slot (refuses n) = ap (λ (t : State). slotAt t pool i) (sym (same-state s i))
+  step-slot (refuses n h) = ap (λ (t : State). slotAt t pool i) (sym (same-state s i))
+  step-slot (unread u) = ap (λ (t : State). slotAt t pool i) (sym (same-state s i))
   step-slot repeats = ap (λ (t : State). slotAt t pool i) (sym (same-state s i))
   step-slot (strays a f) = emptied s k i (f .small) (laneAfter (laneAt s i) (Stray a)) _ pool refl
   step-slot (ends a on n f e h) = emptied s k i (f .small) (laneAfter (laneAt s i) (Unit a on n)) _ pool refl
@@ -72,6 +73,7 @@ module _ (s : State) (k : Sound s) (i : ℕ) (p pool : List ℕ) (size : length 
 out-same : (s : State) (i : ℕ) (u pool out : List ℕ) (d : Step) → outAfter (s .marks) i (laneAt s i) d u pool out ≡ outFrom (groupIn s pool i) u d out
 unfolding outAfter
 out-same s i u pool out (Refuse n) = refl
+out-same s i u pool out (Unread n q) = refl
 out-same s i u pool out Repeat = refl
 out-same s i u pool out (Stray a) = refl
 out-same s i u pool out (Hold a on n) = refl

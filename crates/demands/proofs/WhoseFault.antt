@@ -12,14 +12,16 @@ use lib.ListN.{length, getD, replicate, length-replicate}
 use Rattle.octets.specs.Order.{first, numbersOf}
 use Rattle.octets.proofs.Order.{either}
 use Rattle.packet.specs.Space.{flags, count}
+use Rattle.reading.specs.Reading.{refusal}
 use Rattle.record.specs.Record.{mostPackets, recordSize}
 use Rattle.lane.specs.declared.Lane.{Lane}
 use Rattle.lane.specs.Lane.{closed, holding}
 use Rattle.lane.proofs.Fine.{is-fine}
 use Rattle.grouping.specs.declared.Added.{Added}
 use Rattle.grouping.specs.declared.Step.the-variants.{Hold}
-use Rattle.grouping.specs.Packets.{userOctets}
+use Rattle.grouping.specs.Packets.{termsOf, userOctets}
 use Rattle.grouping.specs.Grouping.{addedFrom}
+use Rattle.grouping.proofs.Accepted.{accepted}
 use Rattle.grouping.specs.Plans.{groupingPlan, acceptedPlan, packetPlan}
 use Rattle.state.specs.State.{laneAt, within}
 use Rattle.state.proofs.Within.{need-open, alone-fits, none-beside}
@@ -52,16 +54,18 @@ module _ (ls : List Lane) (i : ℕ) (p : List ℕ) (room : ℕ) where
       → (on : Bool) × (n : ℕ) × (settle ls i (packetPlan mine p room) ≡ Hold added on n)
   unfolding packetPlan acceptedPlan groupingPlan wouldGroup
   held-step (o, f, r, k) (inl is1) few fits =
+      let read = eq-eqb (refusal p) 0 (accepted (termsOf mine) p f .read) in
       let no3 = ne-eqb (flags p) 3 (λ z. omega arith) in
       let yes1 = eq-eqb (flags p) 1 is1 in
-      (false, user, simp (o, f, r, lt-leb mostPackets (mine .packets) k, no3, yes1) (held-if-room ls i p room added false user (simp yes1 at few) (simp yes1 at fits)))
+      (false, user, simp (o, read, f, r, lt-leb mostPackets (mine .packets) k, no3, yes1) (held-if-room ls i p room added false user (simp yes1 at few) (simp yes1 at fits)))
   held-step (o, f, r, k) (inr (is0, on)) few fits =
+      let read = eq-eqb (refusal p) 0 (accepted (termsOf mine) p f .read) in
       let no3 = ne-eqb (flags p) 3 (λ z. omega arith) in
       let no1 = ne-eqb (flags p) 1 (λ z. omega arith) in
       let yes0 = eq-eqb (flags p) 0 is0 in (
         true,
         mine .octets + user,
-        simp (o, f, r, lt-leb mostPackets (mine .packets) k, no3, no1, on, yes0)
+        simp (o, read, f, r, lt-leb mostPackets (mine .packets) k, no3, no1, on, yes0)
             (held-if-room ls i p room added true (mine .octets + user) (simp (no1, yes0, on) at few) (simp (no1, yes0, on) at fits)),
       )
 

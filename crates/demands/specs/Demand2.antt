@@ -6,7 +6,7 @@ use mathlib.Core.Bool.{true, cond}
 use mathlib.Core.List.{List, [], _∷_, _++_}
 use mathlib.Core.Logic.{_↔_}
 use lib.ListN.{length, take, replicate}
-use lib.Dec.{eqb}
+use lib.Dec.{eqb, leb}
 use Rattle.octets.specs.Octets.{AreOctets}
 use Rattle.octets.specs.Order.{Test, first, numbersOf}
 use Rattle.octets.specs.Output.{leading, put}
@@ -14,6 +14,7 @@ use Rattle.packet.specs.Space.{version, packetType, secondary, apid, flags, cou
 use Rattle.packet.specs.Encapsulation.{protocol, user, extension, encapHeader}
 use Rattle.packet.specs.Told.{told}
 use Rattle.packet.specs.declared.Packet.the-variants.{Space, Encapsulation}
+use Rattle.reading.specs.Places.{faultAt}
 use Rattle.reading.specs.Reading.{size, reading, content}
 use Rattle.writing.specs.Encapsulation.{shortest}
 use Rattle.writing.specs.Carries.{IsShortest}
@@ -25,7 +26,8 @@ use Rattle.record.specs.declared.RecordRead.the-variants.{Fields}
 use Rattle.record.specs.declared.RecordFile.the-variants.{Records}
 use Rattle.lane.specs.declared.Lane.{Lane}
 use Rattle.state.specs.State.{laneAt}
-use Rattle.intake.specs.declared.Answer.the-variants.{Refused, Repeat}
+use Rattle.intake.specs.declared.Answer.{Answer}
+use Rattle.intake.specs.declared.Answer.the-variants.{Refused, Unread, Repeat}
 use Rattle.intake.specs.Calls.{openingCauses, closingCauses}
 use Rattle.rule.specs.Rule.{Taken, takenOf, octetsIn, repeats, group, unit, answerTo, withUnit, credit}
 use Rattle.entries.specs.Entries.{SpacePacket, EncapsulationPacket, RecordGiven}
@@ -116,10 +118,14 @@ causes lanes (opens i settings) = openingCauses lanes i settings
 causes lanes (takes i packet out) = packetCauses lanes i packet (length out)
 causes lanes (closes i out) = closingCauses lanes i (length out)
 
--- what a refused call is replied: the number, and the output as it was
+-- what a packet is answered that is refused: the number, and with those of reading, 1 to 7, the place
+abbrev pub refusedAnswer : ℕ → List ℕ → Answer
+refusedAnswer number packet = cond (leb number 7) (Unread number (faultAt packet number)) (Refused number)
+
+-- what a refused call is replied: that, and the output as it was
 abbrev pub refusedWith : ℕ → Call → Reply
 refusedWith number (opens i settings) = toOpening number
-refusedWith number (takes i packet out) = toPacket (Refused number) out
+refusedWith number (takes i packet out) = toPacket (refusedAnswer number packet) out
 refusedWith number (closes i out) = toClosing number out
 
 -- what a packet is replied by the grouping rule

@@ -18,8 +18,8 @@ use Rattle.grouping.specs.Grouping as lane
 use Rattle.state.specs.declared.State.{State}
 use Rattle.state.specs.State.{laneAt}
 use Rattle.intake.specs.declared.Answer.{Answer}
-use Rattle.intake.specs.declared.Answer.the-variants.{Repeat, Held}
-use Rattle.intake.specs.Told.{told, unitKind}
+use Rattle.intake.specs.declared.Answer.the-variants.{Refused, Unread, Repeat, Stray, Held, Unit}
+use Rattle.intake.specs.Told.{repeatKind, strayKind, heldKind, unitKind}
 use Rattle.rule.specs.Rule.{endings}
 use Rattle.demands.specs.Runs.{Handed, Start, begun, Call, opens, takes, closes, Reply, toOpening, toPacket, toClosing, isRefused, AnyIntake, ours, reply, after, run, names, laneOf}
 use Rattle.demands.specs.Past.{acceptedIn, laneFrom, grown, lanesFrom, pastOf, InEveryRun}
@@ -38,7 +38,12 @@ EachInShareStays = (n : AnyIntake) (i : ℕ) (start : Start) (calls : List Call)
 -- ---- what the grouping rule means for a credit
 -- which answer it is: 0 for a refusal
 abbrev pub kindOf : Answer → ℕ
-kindOf a = getD (told a) 1 0
+kindOf (Refused k) = 0
+kindOf (Unread k place) = 0
+kindOf Repeat = repeatKind
+kindOf (Stray missing givenUp) = strayKind
+kindOf (Held missing givenUp) = heldKind
+kindOf (Unit n missing givenUp) = unitKind
 
 abbrev pub isUnit : Reply → Bool
 isUnit (toOpening refusal) = false

@@ -1,15 +1,14 @@
 -- Every entry meets demand 1.
 use lib.ListN.{length}
 use Rattle.record.specs.Record.{recordIn, fields}
-use Rattle.branmuslin.specs.Lent.{packetNumbers}
 use Rattle.listing.specs.Listing.{listing, recordingText}
 use Rattle.entries.specs.Entry.{Asked}
-use Rattle.entries.specs.Entries.{readPacket, writeSpace, spaceText, writeEncapsulation, encapsulationText, readRecord, writeRecord}
+use Rattle.entries.specs.Entries.{writeSpace, spaceText, writeEncapsulation, encapsulationText, readRecord, writeRecord}
 use Rattle.entries.specs.Exported as name
 use Rattle.entries.specs.Exported.{Name, entry}
 use Rattle.entries.proofs.Refusals.{in-C}
 use Rattle.entries.proofs.EachEntry.{reads-packet, gives-data, looks-at, walks, writes-space, writes-encapsulation, reads-record, reads-record-file, writes-record}
-use Rattle.entries.proofs.EachEntry.{reads-record-file-C, starts-fresh, finds-sound, lists-so}
+use Rattle.entries.proofs.EachEntry.{reads-packet-C, reads-record-file-C, starts-fresh, finds-sound, lists-so}
 use Rattle.entries.proofs.LaneEntries.{opens-lane, takes-packet, takes-packet-C, closes-lane}
 
 pub as-asked : (n : Name) → Asked (entry n)
@@ -29,7 +28,7 @@ as-asked name.take-packet = takes-packet
 as-asked name.close-lane = closes-lane
 as-asked name.list = lists-so listing
 as-asked name.list-recording = lists-so recordingText
-as-asked name.branmuslin-read-packet = in-C readPacket packetNumbers reads-packet
+as-asked name.branmuslin-read-packet = reads-packet-C
 as-asked name.branmuslin-write-space = in-C writeSpace (λ g. length (spaceText g)) writes-space
 as-asked name.branmuslin-write-encapsulation = in-C writeEncapsulation (λ g. length (encapsulationText g)) writes-encapsulation
 as-asked name.branmuslin-read-record = in-C readRecord (λ s. fields (recordIn s)) reads-record

@@ -16,6 +16,7 @@ use Rattle.packet.specs.Space as space
 use Rattle.packet.specs.Encapsulation as encap
 use Rattle.packet.specs.Told as packetTold
 use Rattle.packet.proofs.Answers.{told-fixes}
+use Rattle.reading.specs.Places.{faultAt}
 use Rattle.reading.specs.Reading.{isSpace, refusal, fields, content, contentAt}
 use Rattle.reading.proofs.Exactly.{verdict, refused, accepted, in-order}
 use Rattle.walk.specs.declared.Found.{Found}
@@ -39,15 +40,15 @@ use Rattle.record.specs.Writing.{recordTold}
 use Rattle.record.specs.Told.{toldRead, toldWritten, toldFile}
 use Rattle.record.proofs.Answers.{one-read, one-written, one-file}
 use Rattle.state.specs.State.{sound}
-use Rattle.branmuslin.specs.Lent.{indexAfter}
+use Rattle.branmuslin.specs.Lent.{packetNumbers, placeAfter, indexAfter}
 use Rattle.listing.specs.declared.Listed.{Listed}
 use Rattle.listing.specs.declared.Listed.the-variants.{Octets, TooShort}
 use Rattle.listing.specs.Told as listingTold
-use Rattle.entries.specs.Entry.{Asked}
+use Rattle.entries.specs.Entry.{Entry, numberFor, Asked}
 use Rattle.entries.specs.Entries.{Part}
 use Rattle.entries.specs.Entries.{readPacket, dataOf, lookAt, toldWalked, walkAll, writeSpace, spaceText, writeEncapsulation, encapsulationText, readRecord, readRecordFile, writeRecord}
 use Rattle.entries.specs.Entries.{freshStart, isSound, lists}
-use Rattle.entries.specs.Exported.{records, readRecordFileC}
+use Rattle.entries.specs.Exported.{inC, andNumber, readPacketC, readRecordFileC}
 use Rattle.entries.proofs.Refusals.{output-left, Answers, demand, in-C}
 
 -- ---- reading a packet
@@ -58,7 +59,7 @@ read-answer s =
     (λ w. either (isSpace s)
     (λ k. (packet.Space (space.packetType s) (space.secondary s) (space.apid s) (space.flags s) (space.count s) (space.dataOctets s), simp k at (accepted {s = s} w)))
     (λ k. (packet.Encapsulation (encap.protocol s) (encap.user s) (encap.extension s) (encap.encapHeader s) (encap.encapSize s - encap.encapHeader s), simp k at (accepted {s = s} w))))
-    (λ why. (packet.Refused (why .0), refused (why .1))) (verdict s)
+    (λ why. (packet.Refused (faultAt s (why .0)) (why .0), refused (why .1))) (verdict s)
 
 pub reads-packet : Asked readPacket
 unfolding refusal
@@ -90,7 +91,8 @@ same-walk a b same =
     let r : a .refused ≡ b .refused = cc in
     let e : a .at ≡ b .at = cc in
     let p : a .packets ≡ b .packets = cc in
-    λ i. record { at = e i; packets = p i; refused = r i }
+    let q : a .place ≡ b .place = cc in
+    λ i. record { at = e i; packets = p i; refused = r i; place = q i }
 
 pub walks : Asked walkAll
 unfolding walked stop
@@ -150,19 +152,23 @@ reads-record-file =
     (λ f. either (ltb (impossibleIn s) (recordsIn s)) (λ t. (recordFile.Impossible (impossibleIn s), simp (f, t) refl)) (λ n. (recordFile.Records (recordsIn s), simp (f, n) refl))))
     (λ s. leads-first (0 ∷ recordsIn s ∷ []) (fileTests s)) (λ a b same. one-file (toldFile b) a b same refl) (λ s refused. refl)
 
--- in C the index comes with the number
+-- in C the place, or the index, comes with the number
 same-pair : (a b : ℕ × ℕ) → a .0 ≡ b .0 → a .1 ≡ b .1 → a ≡ b
 same-pair a b p q i = (p i, q i)
 
+and-number : (e : Entry) (number : e .Given → ℕ → ℕ) → Asked e → Asked (andNumber e number)
+and-number e number d = record {
+  answers = λ g. ((numberFor e (g .0), number (g .0) (g .1)), refl);
+  exactly = λ g. d .exactly (g .0);
+  unchanged = λ g. d .unchanged (g .0);
+  one-answer = λ a b same. same-pair a b (cc) (cc);
+}
+
+pub reads-packet-C : Asked readPacketC
+reads-packet-C = and-number (inC readPacket packetNumbers) (λ g. placeAfter (g .0)) (in-C readPacket packetNumbers reads-packet)
+
 pub reads-record-file-C : Asked readRecordFileC
-reads-record-file-C =
-    let d = in-C readRecordFile recordsIn reads-record-file in
-    record {
-      answers = λ g. ((leading (records .tells (g .0)), indexAfter (g .0 .0) (g .1)), refl);
-      exactly = λ g. d .exactly (g .0);
-      unchanged = λ g. d .unchanged (g .0);
-      one-answer = λ a b same. same-pair a b (cc) (cc);
-    }
+reads-record-file-C = and-number (inC readRecordFile recordsIn) (λ g. indexAfter (g .0)) (in-C readRecordFile recordsIn reads-record-file)
 
 -- ---- the state
 pub starts-fresh : Asked freshStart

@@ -35,6 +35,7 @@ use Rattle.numbers.proofs.one_if.Met as oneIf
 use Rattle.numbers.proofs.smaller.Met as smallerOf
 use Rattle.numbers.proofs.larger.Met as largerOf
 use Rattle.packet.proofs.number_of.Met as numberOf
+use Rattle.packet.proofs.place_of.Met as placeOf
 use Rattle.packet.proofs.header_of.Met as headerOf
 use Rattle.packet.proofs.size_of.Met as sizeOf
 use Rattle.reading.proofs.data_of.Met as dataOf
@@ -123,6 +124,7 @@ honours public.one-if M = oneIf.met
 honours public.smaller M = smallerOf.met
 honours public.larger M = largerOf.met
 honours public.number-of M = numberOf.met
+honours public.place-of M = placeOf.met
 honours public.header-of M = headerOf.met
 honours public.size-of M = sizeOf.met
 honours public.is-possible M = isPossible.met

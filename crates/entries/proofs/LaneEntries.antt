@@ -9,7 +9,7 @@ use lib.ListN.{length}
 use Rattle.octets.specs.Octets.{one}
 use Rattle.octets.specs.Output.{leading}
 use Rattle.grouping.specs.declared.Step.{Step}
-use Rattle.grouping.specs.declared.Step.the-variants.{Refuse, Repeat, Stray, Hold, Unit}
+use Rattle.grouping.specs.declared.Step.the-variants.{Refuse, Unread, Repeat, Stray, Hold, Unit}
 use Rattle.intake.specs.declared.Answer.{Answer}
 use Rattle.intake.specs.declared.Answer.the-variants as answer
 use Rattle.intake.specs.declared.Answered.{Answered}
@@ -23,7 +23,7 @@ use Rattle.calls.specs.Order.{refusalOf}
 use Rattle.entries.specs.Entry.{numberFor, Asked}
 use Rattle.entries.specs.Entries.{Taking, openLane, takingOf, takePacket, closeLane}
 use Rattle.entries.specs.Exported.{toldNumbered, takePacketC}
-use Rattle.calls.proofs.Laws.{packet-order, refused-leaves, refused-opening-leaves, refused-closing-leaves}
+use Rattle.calls.proofs.Laws.{packet-order, Untouched, refused-leaves, unread-leaves, refused-opening-leaves, refused-closing-leaves}
 use Rattle.entries.proofs.Refusals.{Ordered, demand}
 use Rattle.entries.proofs.EachEntry.{one-fixes}
 
@@ -43,7 +43,7 @@ closes-lane =
 abbrev asTold : List ℕ → Answer
 asTold [] = answer.Repeat
 asTold (number ∷ []) = answer.Refused number
-asTold (number ∷ kind ∷ []) = answer.Repeat
+asTold (number ∷ place ∷ []) = answer.Unread number place
 asTold (number ∷ kind ∷ missing ∷ []) = answer.Repeat
 asTold (number ∷ kind ∷ missing ∷ givenUp ∷ []) =
     cond (eqb kind 1) answer.Repeat (cond (eqb kind 2) (answer.Stray missing (eqb givenUp 1)) (answer.Held missing (eqb givenUp 1)))
@@ -52,6 +52,7 @@ asTold (number ∷ kind ∷ missing ∷ givenUp ∷ octets ∷ more) = answer.Un
 read-back : (a : Answer) → asTold (told a) ≡ a
 unfolding one
 read-back (answer.Refused k) = refl
+read-back (answer.Unread k q) = refl
 read-back answer.Repeat = refl
 read-back (answer.Stray m true) = refl
 read-back (answer.Stray m false) = refl
@@ -65,17 +66,11 @@ told-fixes a b same = sym (read-back a) ∙ ap asTold same ∙ read-back b
 
 begins : (d : Step) → leading (telling d) ≡ refusalOf d
 begins (Refuse k) = refl
+begins (Unread k q) = refl
 begins Repeat = refl
 begins (Stray a) = refl
 begins (Hold a on n) = refl
 begins (Unit a on n) = refl
-
-refused-only : (d : Step) → (leading (telling d) ≡ 0 → ⊥) → (n : ℕ) × (d ≡ Refuse n)
-refused-only (Refuse k) h = (k, refl)
-refused-only Repeat h = absurd (h refl)
-refused-only (Stray a) h = absurd (h refl)
-refused-only (Hold a on n) h = absurd (h refl)
-refused-only (Unit a on n) h = absurd (h refl)
 
 abbrev stepOf : Taking → Step
 stepOf g = packetStep (g .state) (g .lane) (g .packet) (length (g .pool)) (length (g .out))
@@ -83,10 +78,18 @@ stepOf g = packetStep (g .state) (g .lane) (g .packet) (length (g .pool)) (lengt
 ordered : Ordered takePacket
 ordered g = begins (stepOf g) ∙ packet-order (g .state) (g .shaped) (g .lane) (g .packet) (length (g .pool)) (length (g .out))
 
+-- a step that refuses leaves all as it was
+left-by : (g : Taking) (d : Step) → stepOf g ≡ d → (leading (telling d) ≡ 0 → ⊥) → Untouched (g .state) (g .lane) (g .packet) (g .pool) (g .out)
+left-by g (Refuse k) e h = refused-leaves (g .state) (g .lane) (g .packet) (g .pool) (g .out) k e
+left-by g (Unread k q) e h = unread-leaves (g .state) (g .lane) (g .packet) (g .pool) (g .out) k q e
+left-by g Repeat e h = absurd (h refl)
+left-by g (Stray a) e h = absurd (h refl)
+left-by g (Hold a on n) e h = absurd (h refl)
+left-by g (Unit a on n) e h = absurd (h refl)
+
 left-if-refused : (g : Taking) → (numberFor takePacket g ≡ 0 → ⊥) → takePacket .leaves g ≡ takePacket .before g
 left-if-refused g refused =
-    let d = refused-only (stepOf g) refused in
-    let left = refused-leaves (g .state) (g .lane) (g .packet) (g .pool) (g .out) (d .0) (d .1) in
+    let left = left-by g (stepOf g) refl refused in
     λ i. (left .0 i, left .1 i, left .2 i)
 
 answer-of : (g : Taking) → told (takingOf g .answer) ≡ takePacket .tells g
@@ -102,6 +105,7 @@ same-answered g r same state i = record { answer = told-fixes (r .answer) (takin
 -- in numbers: the refusal is the answer's
 same-number : (d : Step) → inNumbers (answerOf d) .refusal ≡ leading (telling d)
 same-number (Refuse k) = refl
+same-number (Unread k q) = refl
 same-number Repeat = refl
 same-number (Stray a) = refl
 same-number (Hold a on n) = refl
@@ -121,4 +125,5 @@ same-numbered a b same state =
     let givenUp : a .«given_up» ≡ b .«given_up» = one-fixes (a .«given_up») (b .«given_up») (cc) in
     let missing : a .missing ≡ b .missing = cc in
     let octets : a .octets ≡ b .octets = cc in
-    λ i. record { refusal = refusal i; kind = kind i; «given_up» = givenUp i; missing = missing i; octets = octets i; state = state i }
+    let place : a .place ≡ b .place = cc in
+    λ i. record { refusal = refusal i; kind = kind i; «given_up» = givenUp i; missing = missing i; octets = octets i; place = place i; state = state i }

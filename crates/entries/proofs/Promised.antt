@@ -57,7 +57,7 @@ promised name.close-lane κs a h M 𝓤 H A mem run =
 promised name.list κs a h M 𝓤 H A mem run = two 𝓤 ∙ in-words 𝓤 (λ r s. (λ c. (c .0, c .1 ∙ listed-after _ _), λ p. (p .0, p .1 ∙ sym (listed-after _ _))))
 promised name.list-recording κs a h M 𝓤 H A mem run = two 𝓤 ∙ in-words 𝓤 (λ r s. (λ c. (c .0, c .1 ∙ listed-after _ _), λ p. (p .0, p .1 ∙ sym (listed-after _ _))))
 promised name.branmuslin-read-packet κs a h M 𝓤 H A mem run =
-    two 𝓤 ∙ in-words 𝓤 (λ r s. (λ c. (ap (λ n. n ∷ []) (c .0), λ i. (tt, c .1 i)), λ p. (number-alone (p .0), λ i. p .1 i .1)))
+    three 𝓤 ∙ in-words 𝓤 (λ r s. (λ c. (λ i. c .0 i ∷ c .1 .1 i ∷ [], λ i. (tt, c .1 .0 i)), λ p. let e = p .0 in (cc, (λ i. p .1 i .1, cc))))
 promised name.branmuslin-write-space κs a h M 𝓤 H A mem run =
     three 𝓤 ∙ in-words 𝓤 (λ r s. (λ c. (ap (λ n. n ∷ []) (c .0), λ i. (c .1 .0 i, c .1 .1 i)), λ p. (number-alone (p .0), (λ i. p .1 i .0, λ i. p .1 i .1))))
 promised name.branmuslin-write-encapsulation κs a h M 𝓤 H A mem run =

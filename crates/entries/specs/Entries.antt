@@ -78,9 +78,9 @@ lookAt =
     reads (λ (a : Found). a .refused ∷ a .next ∷ packetTold.told (a .packet)) (λ (g : Place). readingTests (drop (g .at) (g .octets)))
     (λ g. refusal (drop (g .at) (g .octets)) ∷ nextOrHere (g .octets) (g .at) ∷ reading (drop (g .at) (g .octets)))
 
--- A walk stops at the end or at the first refusal, which is that of what lies where it stops
+-- A walk stops at the end or at the first refusal, which is that of what lies where it stops, with its place
 abbrev pub toldWalked : Walked → List ℕ
-toldWalked w = w .refused ∷ w .at ∷ w .packets ∷ []
+toldWalked w = w .refused ∷ w .at ∷ w .packets ∷ w .place ∷ []
 
 abbrev pub walkAll : Entry
 walkAll = reads toldWalked (λ s. (eqb (end s) (length s) gives (0 ∷ [])) ∷ readingTests (drop (end s) s)) (λ s. toldWalked (walked s))

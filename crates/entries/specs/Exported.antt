@@ -8,7 +8,7 @@ use Rattle.octets.specs.Octets.{one}
 use Rattle.octets.specs.Output.{unlessRefused}
 use Rattle.record.specs.Record.{recordIn, fields}
 use Rattle.record.specs.Reading.{recordsIn}
-use Rattle.branmuslin.specs.Lent.{packetNumbers, indexAfter}
+use Rattle.branmuslin.specs.Lent.{packetNumbers, placeAfter, indexAfter}
 use Rattle.lanes.specs.declared.Numbered.{Numbered}
 use Rattle.lanes.specs.Numbers.{numbered}
 use Rattle.entries.specs.Entry.{Entry, numberFor}
@@ -21,18 +21,23 @@ inC e {M} new =
     changes {Given = e .Given × M} toldNumber (λ g. e .tests (g .0)) (λ g. toldNumber (numberFor e (g .0)))
     {Lent = e .Lent × M} (λ g. (e .before (g .0), g .1)) (λ g. (e .leaves (g .0), unlessRefused (numberFor e (g .0)) (new (g .0)) (g .1)))
 
--- a record file: the number of records is lent; and so is the index, which belongs to refusal 25 and so to the answer
-abbrev pub records : Entry
-records = inC readRecordFile recordsIn
+-- one to which a number is lent besides, which belongs to a refusal and so to the answer: by what was given, and as it was
+abbrev pub andNumber : (e : Entry) → (e .Given → ℕ → ℕ) → Entry
+andNumber e number =
+    changes {Given = e .Given × ℕ} {Answer = ℕ × ℕ} (λ a. a .0 ∷ a .1 ∷ []) (λ g. e .tests (g .0))
+    (λ g. numberFor e (g .0) ∷ number (g .0) (g .1) ∷ []) (λ g. e .before (g .0)) (λ g. e .leaves (g .0))
 
+-- a packet: its place, of refusals 1 to 7
+abbrev pub readPacketC : Entry
+readPacketC = andNumber (inC readPacket packetNumbers) (λ g. placeAfter (g .0))
+
+-- a record file: the number of records is lent; and so is the index, which belongs to refusal 25
 abbrev pub readRecordFileC : Entry
-readRecordFileC =
-    changes {Given = records .Given × ℕ} {Answer = ℕ × ℕ} (λ a. a .0 ∷ a .1 ∷ []) (λ g. records .tests (g .0))
-    (λ g. numberFor records (g .0) ∷ indexAfter (g .0 .0) (g .1) ∷ []) (λ g. records .before (g .0)) (λ g. records .leaves (g .0))
+readRecordFileC = andNumber (inC readRecordFile recordsIn) (λ g. indexAfter (g .0))
 
 -- a packet is answered in numbers, beside the state
 abbrev pub toldNumbered : Numbered → List ℕ
-toldNumbered n = n .refusal ∷ n .kind ∷ one (n .«given_up») ∷ n .missing ∷ n .octets ∷ []
+toldNumbered n = n .refusal ∷ n .kind ∷ one (n .«given_up») ∷ n .missing ∷ n .octets ∷ n .place ∷ []
 
 abbrev pub takePacketC : Entry
 takePacketC = changes (λ numbers. numbers) (takePacket .tests) (λ g. toldNumbered (numbered (takingOf g))) (takePacket .before) (takePacket .leaves)
@@ -65,7 +70,7 @@ entry take-packet = takePacket
 entry close-lane = closeLane
 entry list = listAll
 entry list-recording = listRecording
-entry branmuslin-read-packet = inC readPacket packetNumbers
+entry branmuslin-read-packet = readPacketC
 entry branmuslin-write-space = inC writeSpace (λ g. length (spaceText g))
 entry branmuslin-write-encapsulation = inC writeEncapsulation (λ g. length (encapsulationText g))
 entry branmuslin-read-record = inC readRecord (λ s. fields (recordIn s))

@@ -39,6 +39,7 @@ use Rattle.numbers.proofs.one_if as oneIf
 use Rattle.numbers.proofs.smaller as smallerOf
 use Rattle.numbers.proofs.larger as largerOf
 use Rattle.packet.proofs.number_of as numberOf
+use Rattle.packet.proofs.place_of as placeOf
 use Rattle.packet.proofs.header_of as headerOf
 use Rattle.packet.proofs.size_of as sizeOf
 use Rattle.record.proofs.is_possible as isPossible
@@ -73,7 +74,7 @@ pub data Public : Type 0 where
   the-entry : Name → Public
   octet-at be16-at be32-at : Public
   put-octets put-octet put-be16 put-be32 : Public
-  one-if smaller larger number-of header-of size-of : Public
+  one-if smaller larger number-of place-of header-of size-of : Public
   is-possible front-record : Public
   blocks-for find-from grant-blocks free-blocks marks-match store-octets gather-octets : Public
   need-of is-illegal is-fine plan-packet : Public
@@ -126,6 +127,7 @@ function one-if = valued oneIf.ended (λ M. oneIf.clauses) oneIf.Symbol.routine
 function smaller = valued smallerOf.ended (λ M. smallerOf.clauses) smallerOf.Symbol.routine
 function larger = valued largerOf.ended (λ M. largerOf.clauses) largerOf.Symbol.routine
 function number-of = valued numberOf.ended (λ M. numberOf.clauses) numberOf.Symbol.routine
+function place-of = valued placeOf.ended (λ M. placeOf.clauses) placeOf.Symbol.routine
 function header-of = valued headerOf.ended (λ M. headerOf.clauses) headerOf.Symbol.routine
 function size-of = valued sizeOf.ended (λ M. sizeOf.clauses) sizeOf.Symbol.routine
 function is-possible = valued isPossible.ended (λ M. isPossible.clauses) isPossible.Symbol.routine

@@ -72,7 +72,10 @@ view name.take-packet = viewOfTaking
 view name.close-lane = viewOfClosing
 view name.list = record { given = λ κs (s, (out, e)) h. record { octets = now s; out = now out }; after = λ κs r (s, (out, e)). (r, now out) }
 view name.list-recording = record { given = λ κs (s, (out, e)) h. record { octets = now s; out = now out }; after = λ κs r (s, (out, e)). (r, now out) }
-view name.branmuslin-read-packet = record { given = λ κs (octets, (numbers, e)) h. (now octets, now numbers); after = λ κs r (octets, (numbers, e)). (r, (tt, now numbers)) }
+view name.branmuslin-read-packet = record {
+  given = λ κs (octets, (numbers, (place, e))) h. ((now octets, now numbers), now place);
+  after = λ κs r (octets, (numbers, (place, e))). ((r, now place), (tt, now numbers));
+}
 view name.branmuslin-write-space = record {
   given = λ κs (packetType, (secondary, (apid, (flags, (count, (field, (out, (written, e)))))))) h.
       (record { packetType = packetType; secondary = secondary; apid = apid; flags = flags; count = count; field = now field; out = now out }, now written);

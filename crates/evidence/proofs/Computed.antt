@@ -2,7 +2,8 @@
 use Prim.{Unit, tt}
 use Rattle.octets.specs.Octets.{one}
 use Rattle.octets.specs.Output.{put, outputAfter}
-use Rattle.reading.specs.Reading.{header, size, readingTests, reading, refusal, content}
+use Rattle.reading.specs.Places.{faultAt}
+use Rattle.reading.specs.Reading.{header, size, readingTests, reading, refusal, place as placeIn, content}
 use Rattle.writing.specs.Space.{spaceOctets}
 use Rattle.record.specs.Record.{possible, recordOctets}
 use Rattle.marks.specs.Blocks.{blocksFor, find, granted, freedMark}
@@ -22,7 +23,7 @@ use Rattle.demands.specs.Runs.{reply, after, run, replies, own, repliesTo}
 use Rattle.demands.specs.Past.{pastFrom}
 
 unfoldable pub calling : Unit {0}
-unfolding one put outputAfter header size readingTests reading refusal content spaceOctets possible recordOctets blocksFor find granted freedMark found holds eachHolds count sum matching place stored gathered need illegal talliesPossible fine fault userData repeats missingBefore breaks givesUp goesOn holdPlan unitPlan groupingPlan acceptedPlan packetPlan laneAfter freshState total within every sound unsound openingRefusal closingRefusal settle packetStep opening closing closingOut releasedFrom grown marksAfter poolAfter groupOf outAfter taking takingPool takingOut
+unfolding one put outputAfter header size readingTests faultAt reading refusal placeIn content spaceOctets possible recordOctets blocksFor find granted freedMark found holds eachHolds count sum matching place stored gathered need illegal talliesPossible fine fault userData repeats missingBefore breaks givesUp goesOn holdPlan unitPlan groupingPlan acceptedPlan packetPlan laneAfter freshState total within every sound unsound openingRefusal closingRefusal settle packetStep opening closing closingOut releasedFrom grown marksAfter poolAfter groupOf outAfter taking takingPool takingOut
 calling = tt
 
 unfoldable pub running : Unit {0}

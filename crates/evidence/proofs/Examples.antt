@@ -1,14 +1,16 @@
 -- The checker computes the runs. All that a run does, but for the octets of a unit, depends on the pool by its length alone; so the run that fills
 -- the pool is computed on the states, with 16,384 for that length, and nothing is stored.
-use Prim.Native.Nat.{ℕ, zero, suc, _≤_}
+use Prim.Native.Nat.{ℕ, zero, suc, _≤_, _<_}
 use mathlib.Core.Path.{_≡_, refl, sym, ap, ap₂, _∙_}
 use mathlib.Core.Bool.{Bool, true, false, not, _&&_, true≢false}
 use mathlib.Core.List.{List, [], _∷_}
 use native.Mathlib.Omega.{arith}
 use borrow.Author.Tests.{eq-eqb, ne-eqb}
-use lib.ListN.{length, getD, take}
+use lib.ListN.{length, getD, take, List·getD-append}
 use lib.Dec.{eqb}
+use Rattle.octets.specs.Octets.{octet}
 use Rattle.octets.proofs.Order.{either, both}
+use Rattle.places.specs.AtFault.{head}
 use Rattle.lane.specs.declared.Settings.{Settings}
 use Rattle.state.specs.declared.State.{State}
 use Rattle.pool.specs.Octets.{poolOctets}
@@ -17,7 +19,7 @@ use Rattle.intake.specs.Calls.{packetStep}
 use Rattle.intake.specs.After.{opening, closing, closingOut, outAfter, userOf, taking, takingOut}
 use Rattle.demands.specs.Runs.{ours, Handed, Start, begun, Call, opens, takes, closes, Reply, toOpening, toPacket, toClosing, reply, after, run, replies, names, own, repliesTo}
 use Rattle.demands.specs.Demand3.{InShare, StaysInShare, NoneUnpromised}
-use Rattle.evidence.specs.Examples.{zeros, ones, interleaved, toldLane0, toldLane1, crowded, toldCrowded, toldUncrowded, unpromised, all64, toldAll64, freeBlocks, freeAround, freeAll64, shares20, toldShares20, whoseFault, toldWhoseFault, lane0Closed, Told, opened, oneOctet, twoBlocks, laneAfterRun, lanesAfterRun, MeetsUsedAgain, MeetsWhoseFault, Examples}
+use Rattle.evidence.specs.Examples.{zeros, ones, interleaved, toldLane0, toldLane1, crowded, toldCrowded, toldUncrowded, unpromised, all64, toldAll64, freeBlocks, freeAround, freeAll64, shares20, toldShares20, whoseFault, toldWhoseFault, lane0Closed, extendedWrongly, whichOctet, toldWhichOctet, otherContent, Told, opened, oneOctet, twoBlocks, laneAfterRun, lanesAfterRun, MeetsUsedAgain, MeetsWhoseFault, MeetsWhichOctet, Examples}
 use Rattle.demands.specs.Past.{shut, pastOf}
 use Rattle.demands.specs.Demand3.{NothingAmiss, HasRoom}
 use Rattle.calls.specs.Order.{wouldHold}
@@ -164,6 +166,10 @@ whose-fault-on : (x : Handed) → repliesOn freshState x whoseFault ≡ toldWhos
 unfolding calling stateAfter replyOn repliesOn
 whose-fault-on x = refl
 
+which-octet-on : (x : Handed) → repliesOn freshState x whichOctet ≡ toldWhichOctet
+unfolding calling stateAfter replyOn repliesOn
+which-octet-on x = refl
+
 -- packets that meet the hypotheses
 in-its-share : NothingAmiss (laneAfterRun 0 opened) oneOctet [] × (wouldHold (laneAfterRun 0 opened) oneOctet ≤ laneAfterRun 0 opened .settings .share)
 unfolding remembering
@@ -196,6 +202,23 @@ meets-whose-fault : MeetsWhoseFault
 unfolding remembering
 meets-whose-fault = record { is-19 = refl; is-27 = refl; same-lane = refl; others-closed = λ j h not1. none-but-1 j not1 }
 
+-- the octets before the content are the same
+below-8 : (k : ℕ) → k < 8 → octet otherContent k ≡ octet extendedWrongly k
+below-8 k h = List·getD-append header′ (0x66 ∷ []) 0 k h ∙ sym (List·getD-append header′ (0x55 ∷ []) 0 k h)
+  where
+    header′ : List ℕ
+    header′ = 0xEB ∷ 0x03 ∷ 0x00 ∷ 0x01 ∷ 0x00 ∷ 0x00 ∷ 0x00 ∷ 0x09 ∷ []
+
+meets-which-octet : MeetsWhichOctet
+unfolding remembering head
+meets-which-octet = record {
+  is-refused = (refl, omega arith);
+  is-open = refl;
+  another = λ e. let z : _≡_ {A = ℕ} 0x55 0x66 = ap (λ s. octet s 8) e in omega arith;
+  same-length = refl;
+  same-header = below-8;
+}
+
 -- ---- all of it
 -- a lane that is told one thing in company and another alone isn't replied as alone
 told-apart : {i : ℕ} {calls : List Call} {shared single : List Reply} → Told i calls shared single
@@ -225,6 +248,8 @@ examples = record {
   above-share = above-share;
   used-again = meets-used-again;
   whose-fault = meets-whose-fault;
+  which-octet = meets-which-octet;
   shares20-told = λ start. same-replies (begun start) (start .whole) shares20 ∙ shares20-on (begun start);
   whose-fault-told = λ start. same-replies (begun start) (start .whole) whoseFault ∙ whose-fault-on (begun start);
+  which-octet-told = λ start. same-replies (begun start) (start .whole) whichOctet ∙ which-octet-on (begun start);
 }

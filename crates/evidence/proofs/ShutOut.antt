@@ -8,7 +8,7 @@ use mathlib.Core.Option.{Option, none, some}
 use native.Mathlib.Omega.{arith}
 use borrow.Author.Tests.{ne-eqb}
 use lib.ListN.{getD, take, drop, replicate}
-use lib.Dec.{eqb}
+use lib.Dec.{eqb, leb}
 use Rattle.octets.specs.Order.{first, numbersOf}
 use Rattle.octets.proofs.Order.{either}
 use Rattle.reading.specs.Reading.{fields, reading}
@@ -146,7 +146,8 @@ by-rule past i packet out tells e =
     either (eqb number 0)
     (λ z. either (repeats ps q) (λ r. absurd (let y = simp (z, r) at e in let k : _≡_ {A = ℕ} 0 1 = cc in omega arith))
     (λ r. some-missing (unit ps q) (group (q ∷ ps)) (missing ps q) tells (givesUp ps q) (withUnit out (unit ps q)) (simp (z, r) at e)))
-    (λ z. absurd (let y = simp z at e in let k : _≡_ {A = ℕ} 0 1 = cc in omega arith))
+    (λ z. either (leb number 7) (λ w. absurd (let y = simp (z, w) at e in let k : _≡_ {A = ℕ} 0 1 = cc in omega arith))
+    (λ w. absurd (let y = simp (z, w) at e in let k : _≡_ {A = ℕ} 0 1 = cc in omega arith)))
 
 makes-up-missing : IsShutOut Demand2 MakesUpMissing
 makes-up-missing n h d =

@@ -1,6 +1,7 @@
 -- The single statement of the starred cases: every row is what the definitions give. The checker computes it.
 use mathlib.Core.Path.{_≡_, refl}
 use mathlib.Core.List.{map}
+use Rattle.reading.specs.Places.{faultAt}
 use Rattle.reading.specs.Reading.{header, size, readingTests, refusal, fields, reading, content}
 use Rattle.record.specs.Record.{possible}
 use Rattle.marks.specs.Blocks.{blocksFor, find}
@@ -18,5 +19,5 @@ use Rattle.demands.specs.Runs.{after, run}
 use Rattle.evidence.specs.Starred.{given, starred}
 
 pub as-the-paper-says : map given starred ≡ starred
-unfolding header size readingTests refusal fields reading content possible blocksFor find found holds eachHolds count sum matching one need illegal talliesPossible fine fault repeats missingBefore breaks givesUp goesOn unitPlan groupingPlan acceptedPlan packetPlan laneAfter freshState total within every sound unsound openingRefusal settle packetStep opening taking releasedFrom marksAfter after run
+unfolding faultAt header size readingTests refusal fields reading content possible blocksFor find found holds eachHolds count sum matching one need illegal talliesPossible fine fault repeats missingBefore breaks givesUp goesOn unitPlan groupingPlan acceptedPlan packetPlan laneAfter freshState total within every sound unsound openingRefusal settle packetStep opening taking releasedFrom marksAfter after run
 as-the-paper-says = refl

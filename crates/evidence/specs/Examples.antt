@@ -4,7 +4,8 @@ use Prim.Native.Nat.{ℕ, _≤_, _<_}
 use mathlib.Core.Path.{_≡_}
 use mathlib.Core.Bool.{true, false}
 use mathlib.Core.List.{List, [], _∷_, _++_}
-use lib.ListN.{getD, replicate, length-replicate}
+use lib.ListN.{length, getD, replicate, length-replicate}
+use Rattle.octets.specs.Octets.{octet}
 use Rattle.writing.specs.Space.{spaceOctets}
 use Rattle.pool.specs.Octets.{poolOctets}
 use Rattle.marks.specs.Blocks.{free}
@@ -13,12 +14,14 @@ use Rattle.lane.specs.declared.Settings.{Settings}
 use Rattle.lane.specs.declared.Lane.{Lane}
 use Rattle.rule.specs.Rule.{takenOf, repeats}
 use Rattle.state.specs.declared.State.{State}
-use Rattle.intake.specs.declared.Answer.the-variants.{Refused, Repeat, Stray, Held, Unit}
+use Rattle.intake.specs.declared.Answer.the-variants.{Refused, Unread, Repeat, Stray, Held, Unit}
 use Rattle.demands.specs.Runs.{ours, Handed, Start, begun, Call, opens, takes, closes, Reply, toOpening, toPacket, toClosing, after, run, replies, own, repliesTo}
 use Rattle.calls.specs.Order.{wouldHold}
 use Rattle.demands.specs.Past.{acceptedIn, laneFrom, lanesFrom, pastOf}
 use Rattle.demands.specs.Demand3.{StaysInShare, NoneUnpromised, NothingAmiss, HasRoom, Belongs, marksFor, placeFor}
 use Rattle.demands.specs.WhoseFault.{packetNumber, OthersClosed}
+use Rattle.demands.specs.WhichOctet.{RefusedAt}
+use Rattle.places.specs.AtFault.{head}
 
 -- two starts, with different content in the pool: one octet all over
 abbrev filled : ℕ → Start
@@ -288,6 +291,42 @@ pub record MeetsWhoseFault : Type 0 where
   pub same-lane : laneAfterRun 1 beside63 ≡ laneAfterRun 1 lane0Closed
   pub others-closed : OthersClosed 1 (λ j. pastOf ours j zeros lane0Closed)
 
+-- ---- which octet is wrong: a packet of two octets; a length of 3 in a header of 4; an extension with protocol ID 2 where the CCSDS field is wrong too. An idle
+-- Encapsulation Packet is well-formed, and a lane that is closed reads nothing: these are refused with no place
+abbrev pub extendedWrongly : List ℕ
+extendedWrongly = 0xEB ∷ 0x03 ∷ 0x00 ∷ 0x01 ∷ 0x00 ∷ 0x00 ∷ 0x00 ∷ 0x09 ∷ 0x55 ∷ []
+
+abbrev pub whichOctet : List Call
+whichOctet =
+    opens 0 (settings 1 2)
+    ∷ takes 0 (0x00 ∷ 0x2A ∷ []) []
+    ∷ takes 0 (0xEA ∷ 0x00 ∷ 0x00 ∷ 0x03 ∷ []) []
+    ∷ takes 0 extendedWrongly []
+    ∷ takes 0 (0xE0 ∷ []) []
+    ∷ takes 1 (0x00 ∷ 0x2A ∷ []) []
+    ∷ []
+
+abbrev pub toldWhichOctet : List Reply
+toldWhichOctet =
+    toOpening 0
+    ∷ toPacket (Unread 1 2) []
+    ∷ toPacket (Unread 4 2) []
+    ∷ toPacket (Unread 7 1) []
+    ∷ toPacket (Refused 13) []
+    ∷ toPacket (Refused 11) []
+    ∷ []
+
+-- so the hypotheses of EachIsHonest, HeaderDecides and PassedOn are met; its content is another in the second
+abbrev pub otherContent : List ℕ
+otherContent = 0xEB ∷ 0x03 ∷ 0x00 ∷ 0x01 ∷ 0x00 ∷ 0x00 ∷ 0x00 ∷ 0x09 ∷ 0x66 ∷ []
+
+pub record MeetsWhichOctet : Type 0 where
+  pub is-refused : RefusedAt ours extendedWrongly 7 1
+  pub is-open : laneAfterRun 0 opened .opened ≡ true
+  pub another : extendedWrongly ≡ otherContent → ⊥
+  pub same-length : length otherContent ≡ length extendedWrongly
+  pub same-header : (k : ℕ) → k < head extendedWrongly → octet otherContent k ≡ octet extendedWrongly k
+
 -- ---- all that is computed
 pub record Examples : Type 0 where
   -- each lane is replied in company what it is alone, and the hypotheses of AsAlone hold
@@ -307,8 +346,10 @@ pub record Examples : Type 0 where
   pub all64-free : (start : Start) → freeAround (begun start) all64 ≡ freeAll64
   pub shares20-told : (start : Start) → replies ours (begun start) shares20 ≡ toldShares20
   pub whose-fault-told : (start : Start) → replies ours (begun start) whoseFault ≡ toldWhoseFault
+  pub which-octet-told : (start : Start) → replies ours (begun start) whichOctet ≡ toldWhichOctet
   -- and the hypotheses of the other statements can be met
   pub in-share : NothingAmiss (laneAfterRun 0 opened) oneOctet [] × (wouldHold (laneAfterRun 0 opened) oneOctet ≤ laneAfterRun 0 opened .settings .share)
   pub above-share : NothingAmiss (laneAfterRun 0 opened) twoBlocks [] × HasRoom (lanesAfterRun opened) 0 twoBlocks
   pub used-again : MeetsUsedAgain
   pub whose-fault : MeetsWhoseFault
+  pub which-octet : MeetsWhichOctet

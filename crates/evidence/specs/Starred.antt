@@ -13,6 +13,11 @@ use Rattle.intake.specs.After.{taking}
 use Rattle.demands.specs.Runs.{ours, Handed, opens, takes, begun, run}
 use Rattle.evidence.specs.Examples.{zeros}
 
+-- what is told of a refusal
+infix 15 refused_at_
+abbrev pub refused_at_ : ℕ → ℕ → List ℕ
+refused number at place = told (Refused place number)
+
 -- a case of each kind that the paper has, with what comes of it
 infix 15 last_then_gives_
 pub data Case : Type 0 where
@@ -44,15 +49,15 @@ given (last c then d gives answer) = last c then d gives (taking (lastWas c .sta
 abbrev pub starred : List Case
 starred =
     read (0x00 ∷ 0x2A ∷ 0xC0 ∷ 0x05 ∷ 0x00 ∷ 0x01 ∷ 0xAA ∷ 0xBB ∷ []) (told (Space 0 0 42 3 5 2)) (0xAA ∷ 0xBB ∷ [])
-    ∷ read (0x00 ∷ 0x2A ∷ 0xC0 ∷ 0x05 ∷ 0x00 ∷ 0x01 ∷ 0xAA ∷ []) (told (Refused 1)) []
-    ∷ read (0x0F ∷ 0xFF ∷ 0xC0 ∷ 0x00 ∷ 0x00 ∷ 0x00 ∷ 0x00 ∷ []) (told (Refused 3)) []
-    ∷ read (0x20 ∷ []) (told (Refused 2)) []
-    ∷ read [] (told (Refused 1)) []
+    ∷ read (0x00 ∷ 0x2A ∷ 0xC0 ∷ 0x05 ∷ 0x00 ∷ 0x01 ∷ 0xAA ∷ []) (refused 1 at 7) []
+    ∷ read (0x0F ∷ 0xFF ∷ 0xC0 ∷ 0x00 ∷ 0x00 ∷ 0x00 ∷ 0x00 ∷ []) (refused 3 at 0) []
+    ∷ read (0x20 ∷ []) (refused 2 at 0) []
+    ∷ read [] (refused 1 at 0) []
     ∷ read (0xE0 ∷ []) (told (Encapsulation 0 0 0 1 0)) []
-    ∷ read (0xE4 ∷ []) (told (Refused 6)) []
-    ∷ read (0xE9 ∷ 0x02 ∷ []) (told (Refused 6)) []
+    ∷ read (0xE4 ∷ []) (refused 6 at 0) []
+    ∷ read (0xE9 ∷ 0x02 ∷ []) (refused 6 at 0) []
     ∷ read (0xE9 ∷ 0x05 ∷ 0x11 ∷ 0x22 ∷ 0x33 ∷ []) (told (Encapsulation 2 0 0 2 3)) (0x11 ∷ 0x22 ∷ 0x33 ∷ [])
-    ∷ read (0xEB ∷ 0x00 ∷ 0x00 ∷ 0x00 ∷ 0x00 ∷ 0x01 ∷ 0x00 ∷ 0x07 ∷ []) (told (Refused 5)) []
+    ∷ read (0xEB ∷ 0x00 ∷ 0x00 ∷ 0x00 ∷ 0x00 ∷ 0x01 ∷ 0x00 ∷ 0x07 ∷ []) (refused 5 at 4) []
     ∷ (last 16383 then 0 gives missing 0)
     ∷ (last 5 then 5 gives Repeat)
     ∷ (last 5 then 9 gives missing 3)

@@ -4,16 +4,15 @@ use Prim.Native.Nat.{ℕ, _+_, _-_, _≤_, _<_}
 use mathlib.Core.Path.{_≡_, refl, ap, _∙_}
 use mathlib.Core.Bool.{Bool, true, false, cond, not}
 use mathlib.Core.List.{List}
-use mathlib.Core.Logic.{⊎-elim}
 use native.Mathlib.Omega.{arith}
-use borrow.Author.Tests.{eq-eqb, eqb-true, eqb-false, ltb-false, not-true, not-false}
+use borrow.Author.Tests.{eq-eqb, ne-eqb, eqb-true, eqb-false, ltb-false, not-true, not-false}
 use lib.Dec.{eqb, ltb}
 use lib.ListN.{length, drop, length-drop}
 use lib.Seq.{take-all, drop-drop}
 use Rattle.packet.specs.Space.{version, packetType, secondary, apid, dataOctets, spaceSize}
 use Rattle.reading.specs.Reading.{isEncapsulation, header, size, refusal, content}
 use Rattle.reading.specs.Causes.{Whole, space, encapsulation}
-use Rattle.reading.proofs.Exactly.{exactly-whole, verdict, whole-gives, gives, numbered}
+use Rattle.reading.proofs.Exactly.{exactly-whole, refusal-most}
 use Rattle.grouping.specs.declared.Terms.{Terms}
 use Rattle.grouping.specs.Packets.{misflags, fault, userData, userOctets}
 
@@ -57,11 +56,29 @@ module _ (t : Terms) (s : List ℕ) where
       let data′ : userData (t .settings) s ≡ drop (6 + t .settings .secondary) s = ap (drop (t .settings .secondary)) all ∙ drop-drop (t .settings .secondary) 6 s in
       (data′, ap length data′ ∙ length-drop (6 + t .settings .secondary) s ∙ omega (arith, a .whole, a .long))
 
+  -- what is read is refused by 12 to 17
+  pub fault-least : refusal s ≡ 0 → (fault t s ≡ 0 → ⊥) → 12 ≤ fault t s
+  unfolding refusal fault
+  fault-least read =
+      simp (eq-eqb (refusal s) 0 read)
+      (least (ltb (size s) (length s)) (omega arith) (least (isEncapsulation s) (omega arith) (least (eqb (packetType s) 1) (omega arith)
+      (least (not (eqb (apid s) (t .settings .apid))) (omega arith) (least (misflags (secondary s) (t .settings .secondary)) (omega arith)
+      (least (ltb (dataOctets s) (t .settings .secondary)) (omega arith) (λ u. absurd (u refl))))))))
+    where
+      least : (b : Bool) {k rest : ℕ} → 12 ≤ k → ((rest ≡ 0 → ⊥) → 12 ≤ rest) → (cond b k rest ≡ 0 → ⊥) → 12 ≤ cond b k rest
+      least true h g u = h
+      least false h g u = g u
+
+  -- and what isn't, by the reader
+  pub fault-read : (refusal s ≡ 0 → ⊥) → fault t s ≡ refusal s
+  unfolding refusal fault
+  fault-read u = simp (ne-eqb (refusal s) 0 u)
+
   -- reading refuses by 1 to 7
   pub fault-most : fault t s ≤ 17
   unfolding refusal fault
   fault-most =
-      let few : refusal s ≤ 7 = ⊎-elim (λ w. omega (arith, whole-gives w)) (λ k. omega (arith, gives (k .1), numbered (k .1))) (verdict s) in
+      let few = refusal-most s in
       most (not (eqb (refusal s) 0)) (omega arith) (most (ltb (size s) (length s)) (omega arith) (most (isEncapsulation s) (omega arith)
       (most (eqb (packetType s) 1) (omega arith) (most (not (eqb (apid s) (t .settings .apid))) (omega arith)
       (most (misflags (secondary s) (t .settings .secondary)) (omega arith) (most (ltb (dataOctets s) (t .settings .secondary)) (omega arith) (omega arith)))))))

@@ -1,6 +1,6 @@
 -- Why a packet is refused before the grouping rule, from what the reader's enum says of its octets: one law for each way out.
-use Prim.Native.Nat.{ℕ, _+_, _-_, _≤_, _<_}
-use mathlib.Core.Path.{_≡_, refl, sym, ap, _∙_}
+use Prim.Native.Nat.{ℕ, _+_, _-_, _≤_}
+use mathlib.Core.Path.{_≡_, sym, ap, _∙_}
 use mathlib.Core.Bool.{Bool, true, false, cond, not}
 use mathlib.Core.List.{List, [], _∷_}
 use mathlib.Core.Logic.{_⊎_, ⊎-elim}
@@ -24,7 +24,7 @@ use Rattle.lane.specs.declared.Lane.{Lane}
 use Rattle.grouping.specs.declared.Terms.{Terms}
 use Rattle.grouping.specs.declared.Plan.{Plan}
 use Rattle.grouping.specs.Packets.{misflags, termsOf, fault}
-use Rattle.grouping.specs.Faults.{otherRefusal, spaceFault}
+use Rattle.grouping.specs.Faults.{otherPlan, spaceFault}
 use Rattle.grouping.specs.Plans.{refusing, packetPlan, acceptedPlan}
 
 -- a packet that is read is of version 0 or 7
@@ -48,24 +48,12 @@ unfolding spaceFault
 long-enough terms k n t x a d e z =
     either (ltb d (terms .settings .secondary)) (λ b. absurd (some-fault (ltb (spaceHeader + d) n) (eqb t 1) (not (eqb a (terms .settings .apid))) (misflags x (terms .settings .secondary)) (simp b at (sym e ∙ z)))) (ltb-false d (terms .settings .secondary))
 
-module _ (terms : Terms) (s : List ℕ) where
-  -- what is no Space Packet is refused
-  other : (p : Packet) → OneOf (1 ∷ 2 ∷ []) (tagOf the-type p) → Says p s → (otherRefusal p (length s) ≡ fault terms s) × (0 < fault terms s)
-  unfolding refusal otherRefusal fault
-  other (Space t x a f c n) k w = absurd (⊎-elim (λ e. omega arith) (λ e. omega arith) k)
-  other (Encapsulation i u x h n) k w =
-      let z = size-told (Encapsulation i u x h n) s w (w .0) .1 in
-      either (ltb (size s) (length s))
-      (λ b. simp (eq-eqb (refusal s) 0 (w .0), z, b) (refl, omega arith))
-      (λ b. simp (eq-eqb (refusal s) 0 (w .0), z, b, eq-eqb (version s) 7 (version-read s (w .0) (w .1))) (refl, omega arith))
-  other (Refused m) k w = rw (w .0) (simp (ne-eqb m 0 (λ e. omega (arith, w .1))) (refl, w .1))
-
-  -- a Space Packet is refused by its fields
-  of-space : (t x a f c n : ℕ) → Says (Space t x a f c n) s → spaceFault terms (length s) t x a n ≡ fault terms s
-  unfolding spaceFault fault
-  of-space t x a f c n w =
-      let z = size-told (Space t x a f c n) s w (w .0) .1 in
-      simp (eq-eqb (refusal s) 0 (w .0), ← z, ne-eqb (version s) 7 (λ e. omega (arith, w .1)), w .2, w .3, w .4, w .7)
+-- a Space Packet is refused by its fields
+of-space : (terms : Terms) (s : List ℕ) (t x a f c n : ℕ) → Says (Space t x a f c n) s → spaceFault terms (length s) t x a n ≡ fault terms s
+unfolding spaceFault fault
+of-space terms s t x a f c n w =
+    let z = size-told (Space t x a f c n) s w (w .0) .1 in
+    simp (eq-eqb (refusal s) 0 (w .0), ← z, ne-eqb (version s) 7 (λ e. omega (arith, w .1)), w .2, w .3, w .4, w .7)
 
 -- the ways out of the plan for a packet
 module _ (l : Lane) (s : List ℕ) (room : ℕ) where
@@ -73,21 +61,33 @@ module _ (l : Lane) (s : List ℕ) (room : ℕ) where
   unfolding packetPlan
   not-open r h e = simp h e
 
-  module _ (open′ : not (l .opened) ≡ false) (p : Packet) (read : told p ≡ reading s) where
-    refused : (k : ℕ) → k ≡ fault (termsOf l) s → 0 < k → (r : Plan) → r ≡ refusing k → r ≡ packetPlan l s room
-    unfolding packetPlan
-    refused k e h r f = simp (open′, ← e, ne-eqb k 0 (λ z. omega arith)) f
+  module _ (open′ : not (l .opened) ≡ false) where
+    -- what is no Space Packet: an Encapsulation Packet, or the reader's refusal with its place
+    other : (p : Packet) → OneOf (1 ∷ 2 ∷ []) (tagOf the-type p) → Says p s → otherPlan p (length s) ≡ packetPlan l s room
+    unfolding otherPlan packetPlan fault
+    other (Space t x a f c n) k w = absurd (⊎-elim (λ e. omega arith) (λ e. omega arith) k)
+    other (Encapsulation i u x h n) k w =
+        let z = size-told (Encapsulation i u x h n) s w (w .0) .1 in
+        either (ltb (size s) (length s))
+        (λ b. simp (open′, eq-eqb (refusal s) 0 (w .0), z, b))
+        (λ b. simp (open′, eq-eqb (refusal s) 0 (w .0), z, b, eq-eqb (version s) 7 (version-read s (w .0) (w .1))))
+    other (Refused q m) k w = rw (w .0, w .2) (simp (open′, ne-eqb m 0 (λ e. omega (arith, w .1))))
 
-    pub not-space : OneOf (1 ∷ 2 ∷ []) (tagOf the-type p) → (k : ℕ) → k ≡ otherRefusal p (length s) → (r : Plan) → r ≡ refusing k → r ≡ packetPlan l s room
-    not-space keys k e r f = let o = other (termsOf l) s p keys (says p s read) in refused k (e ∙ o .0) (rw (e ∙ o .0) (o .1)) r f
+  module _ (open′ : not (l .opened) ≡ false) (p : Packet) (read : told p ≡ reading s) where
+    pub not-space : OneOf (1 ∷ 2 ∷ []) (tagOf the-type p) → (r : Plan) → r ≡ otherPlan p (length s) → r ≡ packetPlan l s room
+    not-space keys r f = f ∙ other open′ p keys (says p s read)
 
     module _ (t x a f c n : ℕ) (is : p ≡ Space t x a f c n) (k : ℕ) (fk : k ≡ spaceFault (termsOf l) (length s) t x a n) where
       said : Says (Space t x a f c n) s
       said = says (Space t x a f c n) s (ap told (sym is) ∙ read)
 
+      same-fault : k ≡ fault (termsOf l) s
+      same-fault = fk ∙ of-space (termsOf l) s t x a f c n said
+
       pub faulty : (k ≡ 0 → ⊥) → (r : Plan) → r ≡ refusing k → r ≡ packetPlan l s room
-      faulty h r g = refused k (fk ∙ of-space (termsOf l) s t x a f c n said) (omega (arith, h)) r g
+      unfolding packetPlan
+      faulty h r g = simp (open′, eq-eqb (refusal s) 0 (said .0), ← same-fault, ne-eqb k 0 h) g
 
       pub fine : k ≡ 0 → (r : Plan) → r ≡ acceptedPlan l f c (n - l .settings .secondary) room → r ≡ packetPlan l s room
       unfolding packetPlan
-      fine z r g = simp (open′, eq-eqb (fault (termsOf l) s) 0 (sym (fk ∙ of-space (termsOf l) s t x a f c n said) ∙ z), ← said .5, ← said .6, ← said .7) g
+      fine z r g = simp (open′, eq-eqb (refusal s) 0 (said .0), eq-eqb (fault (termsOf l) s) 0 (sym same-fault ∙ z), ← said .5, ← said .6, ← said .7) g

@@ -6,15 +6,16 @@ use mathlib.Core.Bool.{Bool, true, false, cond, not, _&&_, true≢false}
 use mathlib.Core.List.{List}
 use native.Mathlib.Nat.{zero-add}
 use native.Mathlib.Omega.{arith}
-use borrow.Author.Tests.{eqb-true, eqb-false, ltb-false, leb-false, not-false}
+use borrow.Author.Tests.{eqb-true, eqb-false, ltb-false, leb-false, not-true, not-false}
 use lib.Dec.{eqb, ltb, leb}
 use Rattle.octets.proofs.Order.{both}
 use Rattle.packet.specs.Space.{flags, counts, count}
+use Rattle.reading.specs.Reading.{refusal, place}
 use Rattle.record.specs.Record.{mostPackets, mostBetween}
 use Rattle.marks.specs.Blocks.{blocksFor}
 use Rattle.lane.specs.declared.Lane.{Lane}
 use Rattle.grouping.specs.declared.Added.{Added}
-use Rattle.grouping.specs.declared.Step.the-variants.{Refuse, Repeat, Stray, Hold, Unit}
+use Rattle.grouping.specs.declared.Step.the-variants.{Refuse, Unread, Repeat, Stray, Hold, Unit}
 use Rattle.grouping.specs.declared.Plan.{Plan}
 use Rattle.grouping.specs.declared.Plan.the-variants.{Sure, Ask}
 use Rattle.octets.specs.Octets.{one}
@@ -24,6 +25,7 @@ use Rattle.grouping.specs.Grouping.{missingBefore, breaks, givesUp, goes
 use Rattle.grouping.specs.Grouping as rule
 use Rattle.grouping.specs.Plans.{holdPlan, unitPlan, groupingPlan, acceptedPlan, packetPlan}
 use Rattle.grouping.specs.Steps.{counted, laneAfter}
+use Rattle.grouping.proofs.Accepted.{fault-least}
 use Rattle.lane.proofs.Fine.{Tallies, Fine, is-fine, fine-is}
 
 -- what holds of both outcomes of a test holds of the choice
@@ -32,7 +34,8 @@ of-either P true f g = f refl
 of-either P false f g = g refl
 
 pub data Planned (l : Lane) (s : List ℕ) (room : ℕ) : Plan → Type 0 where
-  refuses : (k : ℕ) → Planned l s room (Sure (Refuse k))
+  refuses : (k : ℕ) → 8 ≤ k → Planned l s room (Sure (Refuse k))
+  unread : (refusal s ≡ 0 → ⊥) → Planned l s room (Sure (Unread (refusal s) (place s)))
   repeats : Planned l s room (Sure Repeat)
   strays : (a : Added) → l .opened ≡ true → fault (termsOf l) s ≡ 0 → fine (laneAfter l (Stray a)) ≡ true → Planned l s room (Sure (Stray a))
   ends : (a : Added) (on : Bool) (n : ℕ) → l .opened ≡ true → fault (termsOf l) s ≡ 0 → fine (laneAfter l (Unit a on n)) ≡ true
@@ -104,13 +107,13 @@ module _ (l : Lane) (s : List ℕ) (room : ℕ) (is : Fine l) where
     to-hold : (on : Bool) (n : ℕ) → n ≡ cond on (l .octets) 0 + user → (on ≡ true → l .grouped ≡ true) → Obeys (holdPlan (l .settings) added on n)
     unfolding holdPlan one laneAfter
     to-hold on n is-joined grouped =
-        of-either Obeys (ltb (l .settings .cap) (blocksFor n)) (λ e. refuses 19)
+        of-either Obeys (ltb (l .settings .cap) (blocksFor n)) (λ e. refuses 19 (omega arith))
         (λ e. holds added on n open′ good (after 0 true n (omega arith) (ltb-false _ _ e) (λ z. absurd (true≢false z))) is-joined grouped)
 
     to-end : (on : Bool) (n : ℕ) → n ≡ cond on (l .octets) 0 + user → Obeys (unitPlan room added on n)
     unfolding unitPlan one laneAfter blocksFor
     to-end on n is-joined =
-        of-either Obeys (ltb room n) (λ e. refuses 20)
+        of-either Obeys (ltb room n) (λ e. refuses 20 (omega arith))
         (λ e. ends added on n open′ good (after 1 false 0 (omega arith) (omega arith) (λ z. refl)) is-joined (ltb-false _ _ e))
 
     to-stray : Obeys (Sure (Stray added))
@@ -132,8 +135,10 @@ unfolding packetPlan acceptedPlan
 planned l s room h =
     let is : Fine l = is-fine l h in
     let P : Plan → Type 0 = Planned l s room in
-    of-either P (not (l .opened)) (λ e. refuses 11)
-    (λ e. of-either P (not (eqb (fault (termsOf l) s) 0)) (λ f. refuses (fault (termsOf l) s))
+    of-either P (not (l .opened)) (λ e. refuses 11 (omega arith))
+    (λ e. of-either P (not (eqb (refusal s) 0)) (λ r. unread (eqb-false _ _ (not-true _ r)))
+    (λ r. of-either P (not (eqb (fault (termsOf l) s) 0))
+    (λ f. refuses (fault (termsOf l) s) (omega (arith, fault-least (termsOf l) s (eqb-true _ _ (not-false _ r)) (eqb-false _ _ (not-true _ f)))))
     (λ f. of-either P (rule.repeats l (count s)) (λ g. repeats)
-    (λ g. of-either P (leb mostPackets (l .packets)) (λ k. refuses 18)
-    (λ k. grouping l s room is (not-false _ e) (eqb-true _ _ (not-false _ f)) g (leb-false _ _ k)))))
+    (λ g. of-either P (leb mostPackets (l .packets)) (λ k. refuses 18 (omega arith))
+    (λ k. grouping l s room is (not-false _ e) (eqb-true _ _ (not-false _ f)) g (leb-false _ _ k))))))

@@ -5,12 +5,13 @@ use mathlib.Core.List.{List, [], _∷_}
 use lib.Dec.{eqb, ltb, leb}
 use Rattle.octets.specs.Order.{_gives_, first}
 use Rattle.packet.specs.Space.{flags, count}
+use Rattle.reading.specs.Reading.{refusal, place}
 use Rattle.record.specs.Record.{mostPackets}
 use Rattle.marks.specs.Blocks.{blocksFor}
 use Rattle.lane.specs.declared.Settings.{Settings}
 use Rattle.lane.specs.declared.Lane.{Lane}
 use Rattle.grouping.specs.declared.Added.{Added}
-use Rattle.grouping.specs.declared.Step.the-variants.{Refuse, Repeat, Stray, Hold, Unit}
+use Rattle.grouping.specs.declared.Step.the-variants.{Refuse, Unread, Repeat, Stray, Hold, Unit}
 use Rattle.grouping.specs.declared.Plan.{Plan}
 use Rattle.grouping.specs.declared.Plan.the-variants.{Sure, Ask}
 use Rattle.grouping.specs.Packets.{termsOf, fault, userOctets}
@@ -55,5 +56,6 @@ unfoldable pub packetPlan : Lane → List ℕ → ℕ → Plan
 packetPlan l s room =
     first (acceptedPlan l (flags s) (count s) (userOctets (l .settings) s) room)
     ((not (l .opened) gives refusing 11)
+    ∷ (not (eqb (refusal s) 0) gives Sure (Unread (refusal s) (place s)))
     ∷ (not (eqb (fault (termsOf l) s) 0) gives refusing (fault (termsOf l) s))
     ∷ [])

@@ -4,7 +4,7 @@ use mathlib.Core.Bool.{Bool, true, false}
 use Rattle.lane.specs.declared.Lane.{Lane}
 use Rattle.grouping.specs.declared.Added.{Added}
 use Rattle.grouping.specs.declared.Step.{Step}
-use Rattle.grouping.specs.declared.Step.the-variants.{Refuse, Repeat, Stray, Hold, Unit}
+use Rattle.grouping.specs.declared.Step.the-variants.{Refuse, Unread, Repeat, Stray, Hold, Unit}
 use Rattle.octets.specs.Octets.{one}
 
 -- The packet tally grows by 1, missing is added, broken and units grow where a group is given up and for a unit, last becomes the count; and
@@ -15,6 +15,7 @@ counted l a units grouped octets =
 
 unfoldable pub laneAfter : Lane → Step → Lane
 laneAfter l (Refuse k) = l
+laneAfter l (Unread k place) = l
 laneAfter l Repeat = l
 laneAfter l (Stray a) = counted l a 0 false 0
 laneAfter l (Hold a on n) = counted l a 0 true n

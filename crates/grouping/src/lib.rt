@@ -9,7 +9,7 @@ use lane::Lane;
 use lane::Settings;
 use packet::Packet;
 use packets::fault_of;
-use packets::other_refusal;
+use packets::other_plan;
 use reading::read_packet;
 
 // What decides, with its octets, whether a packet is at fault: the settings of the lane that it comes to.
@@ -26,7 +26,13 @@ pub struct Added {
 
 // What a packet does. `joins` says that the open group goes on; octets are those of the group or unit with the user data.
 pub enum Step {
+    // 8 and above
     Refuse(u8),
+    // 1 to 7, the reader's refusal with its place
+    Unread {
+        number: u8,
+        place: u32,
+    },
     Repeat,
     Stray(Added),
     Hold {
@@ -75,7 +81,7 @@ pub fn plan_packet(l: Lane, octets: &[u8], room: usize) -> Plan
         octets: size,
     } = p
     else {
-        return refuse(other_refusal(p, octets.len()));
+        return other_plan(p, octets.len());
     };
     let settings = l.settings;
     let terms = Terms { settings };

@@ -1,22 +1,33 @@
 // A packet that comes to a lane: why it is refused before the grouping rule.
 ghost use mathlib.Core.Path.{_≡_};
 ghost use Rattle.grouping.specs.Packets.{misflags};
-ghost use Rattle.grouping.specs.Faults.{otherRefusal, spaceFault};
+ghost use Rattle.grouping.specs.Faults.{otherPlan, spaceFault};
+use crate::Plan;
+use crate::Step;
 use crate::Terms;
+use crate::refuse;
 use packet::Packet;
 use packet::SPACE_HEADER;
 use packet::number_of;
+use packet::place_of;
 use packet::size_of;
 
-// The refusal of what is not a Space Packet, from so many octets: the reader's; or 12 for octets after it, and 13.
-pub(crate) fn other_refusal(p: Packet, octets: usize) -> u8
-    ensures { λ r. ⌜ r ≡ otherRefusal p octets ⌝ }
+// The plan for what is not a Space Packet, from so many octets: the reader's refusal; or 12 for octets after it, and 13.
+pub(crate) fn other_plan(p: Packet, octets: usize) -> Plan
+    ensures { λ r. ⌜ r ≡ otherPlan p octets ⌝ }
 {
     let number = number_of(p);
     if number != 0 {
-        return number;
+        return Plan::Sure(Step::Unread {
+            number,
+            place: place_of(p),
+        });
     }
-    if size_of(p) < octets { 12 } else { 13 }
+    if size_of(p) < octets {
+        refuse(12)
+    } else {
+        refuse(13)
+    }
 }
 
 // Whether the secondary header flag and the lane's secondary length disagree.

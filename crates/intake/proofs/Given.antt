@@ -3,7 +3,7 @@
 use Prim.Native.Nat.{ℕ, _+_, _≤_, _<_}
 use Prim.{tt}
 use mathlib.Core.Path.{_≡_, refl, sym, ap, _∙_}
-use mathlib.Core.Bool.{Bool, true, false}
+use mathlib.Core.Bool.{Bool, true, false, true≢false}
 use mathlib.Core.List.{List}
 use native.Mathlib.Omega.{arith}
 use lib.ListN.{length, set, drop, List·getD-eq-default}
@@ -26,11 +26,11 @@ use Rattle.intake.specs.declared.Answer.{Answer}
 use Rattle.intake.specs.declared.Answered.{Answered}
 use Rattle.state.specs.State.{laneAt, within, unsound}
 use Rattle.intake.specs.Calls.{settle, packetStep}
-use Rattle.intake.specs.After.{withLane, userOf, poolAfter, outAfter, answerOf, taking, takingPool, takingOut}
+use Rattle.intake.specs.After.{withLane, userOf, marksAfter, poolAfter, outAfter, answerOf, answered, taking, takingPool, takingOut}
 use Rattle.intake.specs.Told.{told, telling}
-use Rattle.intake.specs.Ready.{Ready}
+use Rattle.intake.specs.Ready.{isRefusal, Ready}
 use Rattle.state.proofs.Soundness.{then-sound, lane-fine, opened-small}
-use Rattle.intake.proofs.Taken.{Leaves}
+use Rattle.intake.proofs.Taken.{same-state, Leaves}
 
 -- what comes after the header and the secondary octets
 abbrev pub userPart : Lane → List ℕ → List ℕ
@@ -78,7 +78,8 @@ module _ (s : State) (eight : length (s .lanes) ≡ 8) (i : ℕ) (p : List ℕ) 
 
     ready : {d : Plan} → Planned own p room d → Ready i own (settle (s .lanes) i d) (length (userPart own p)) octets room
     unfolding settle laneAfter
-    ready (plan.refuses n) = tt
+    ready (plan.refuses n h) = tt
+    ready (plan.unread u) = tt
     ready plan.repeats = tt
     ready (plan.strays a o f g) = (small o, g)
     ready (plan.ends a on n o f g e h) =
@@ -92,7 +93,8 @@ module _ (s : State) (eight : length (s .lanes) ≡ 8) (i : ℕ) (p : List ℕ) 
     same-pool : {d : Plan} (pool : List ℕ) → Planned own p room d
         → poolAfter (s .marks) i own (settle (s .lanes) i d) (userPart own p) pool ≡ poolAfter (s .marks) i own (settle (s .lanes) i d) (userOf s i p) pool
     unfolding settle poolAfter
-    same-pool pool (plan.refuses n) = refl
+    same-pool pool (plan.refuses n h) = refl
+    same-pool pool (plan.unread u) = refl
     same-pool pool plan.repeats = refl
     same-pool pool (plan.strays a o f g) = refl
     same-pool pool (plan.ends a on n o f g e h) = refl
@@ -101,7 +103,8 @@ module _ (s : State) (eight : length (s .lanes) ≡ 8) (i : ℕ) (p : List ℕ) 
     same-out : {d : Plan} (pool out : List ℕ) → Planned own p room d
         → outAfter (s .marks) i own (settle (s .lanes) i d) (userPart own p) pool out ≡ outAfter (s .marks) i own (settle (s .lanes) i d) (userOf s i p) pool out
     unfolding settle outAfter
-    same-out pool out (plan.refuses n) = refl
+    same-out pool out (plan.refuses n h) = refl
+    same-out pool out (plan.unread u) = refl
     same-out pool out plan.repeats = refl
     same-out pool out (plan.strays a o f g) = refl
     same-out pool out (plan.ends a on n o f g e h) = rw (part-is f)
@@ -144,9 +147,28 @@ module _ (s : State) (eight : length (s .lanes) ≡ 8) (i : ℕ) where
   pub nothing-stored : 8 ≤ i → (k : Lane) (m : List ℕ) → record { lanes = s .lanes; marks = m } ≡ withLane s i k m
   nothing-stored h k m = rw (set-out (s .lanes) i k (omega (arith, eight, h)))
 
+-- ---- a step that refuses leaves all as it was
+module _ (s : State) (i : ℕ) (p pool out : List ℕ) where
+  by-step : (d : Step) → isRefusal d ≡ true
+      → (record { answer = answerOf d; state = s } ≡ answered s i d)
+      × (pool ≡ poolAfter (s .marks) i (laneAt s i) d (userOf s i p) pool) × (out ≡ outAfter (s .marks) i (laneAt s i) d (userOf s i p) pool out)
+  unfolding laneAfter marksAfter poolAfter outAfter
+  by-step (step.Refuse k) r = (ap (λ (t : State). record { answer = answerOf (step.Refuse k); state = t }) (same-state s i), refl, refl)
+  by-step (step.Unread k q) r = (ap (λ (t : State). record { answer = answerOf (step.Unread k q); state = t }) (same-state s i), refl, refl)
+  by-step step.Repeat r = absurd (true≢false (sym r))
+  by-step (step.Stray a) r = absurd (true≢false (sym r))
+  by-step (step.Hold a on n) r = absurd (true≢false (sym r))
+  by-step (step.Unit a on n) r = absurd (true≢false (sym r))
+
+  pub refused-so : (d : Step) → d ≡ packetStep s i p (length pool) (length out) → isRefusal d ≡ true → (a : Answer) → a ≡ answerOf d
+      → (record { answer = a; state = s } ≡ taking s i p (length pool) (length out)) × (pool ≡ takingPool s i p (length out) pool) × (out ≡ takingOut s i p pool out)
+  unfolding taking takingPool takingOut
+  refused-so d ed r a ea = rw (ea, ← ed) (by-step d r)
+
 -- the answer tells what the step does
 step-told : (d : Step) → told (answerOf d) ≡ telling d
 step-told (step.Refuse k) = refl
+step-told (step.Unread k place) = refl
 step-told step.Repeat = refl
 step-told (step.Stray a) = refl
 step-told (step.Hold a on n) = refl

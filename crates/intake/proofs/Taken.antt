@@ -1,4 +1,4 @@
--- The step is one of five, and each leaves what its own function promises; the other parts stay.
+-- The step is one of six, and each leaves what its own function promises; the other parts stay.
 use Prim.Native.Nat.{ℕ}
 use mathlib.Core.Path.{_≡_, refl}
 use mathlib.Core.Bool.{Bool}
@@ -27,6 +27,10 @@ module _ (marks : List ℕ) (i : ℕ) (l : Lane) (d : Step) (u pool out : List �
   pub refuses : (n : ℕ) → d ≡ step.Refuse n → Leaves marks i l d u pool out l marks pool out
   unfolding laneAfter marksAfter poolAfter outAfter
   refuses n e = rw e (refl, refl, refl, refl)
+
+  pub unread : (n q : ℕ) → d ≡ step.Unread n q → Leaves marks i l d u pool out l marks pool out
+  unfolding laneAfter marksAfter poolAfter outAfter
+  unread n q e = rw e (refl, refl, refl, refl)
 
   pub repeats : d ≡ step.Repeat → Leaves marks i l d u pool out l marks pool out
   unfolding laneAfter marksAfter poolAfter outAfter

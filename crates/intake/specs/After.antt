@@ -55,6 +55,7 @@ grown marks i l false n = granted (releasedFrom marks i l) (mark i 0) (blocksFor
 
 unfoldable pub marksAfter : List ℕ → ℕ → Lane → Step → List ℕ
 marksAfter marks i l (step.Refuse k) = marks
+marksAfter marks i l (step.Unread k place) = marks
 marksAfter marks i l step.Repeat = marks
 marksAfter marks i l (step.Stray a) = releasedFrom marks i l
 marksAfter marks i l (step.Hold a on n) = grown marks i l on n
@@ -63,6 +64,7 @@ marksAfter marks i l (step.Unit a on n) = releasedFrom marks i l
 -- Only packets answered Held store octets: user data u after those of the group that goes on
 unfoldable pub poolAfter : List ℕ → ℕ → Lane → Step → List ℕ → List ℕ → List ℕ
 poolAfter marks i l (step.Refuse k) u pool = pool
+poolAfter marks i l (step.Unread k place) u pool = pool
 poolAfter marks i l step.Repeat u pool = pool
 poolAfter marks i l (step.Stray a) u pool = pool
 poolAfter marks i l (step.Hold a on n) u pool = stored (grown marks i l on n) i pool (cond on (l .octets) 0) u
@@ -77,6 +79,7 @@ unitOf marks i l on u pool = groupOf marks i l on pool ++ u
 
 unfoldable pub outAfter : List ℕ → ℕ → Lane → Step → List ℕ → List ℕ → List ℕ → List ℕ
 outAfter marks i l (step.Refuse k) u pool out = out
+outAfter marks i l (step.Unread k place) u pool out = out
 outAfter marks i l step.Repeat u pool out = out
 outAfter marks i l (step.Stray a) u pool out = out
 outAfter marks i l (step.Hold a on n) u pool out = out
@@ -85,6 +88,7 @@ outAfter marks i l (step.Unit a on n) u pool out = put out 0 (unitOf marks i l o
 -- the answer
 abbrev pub answerOf : Step → Answer
 answerOf (step.Refuse k) = answer.Refused k
+answerOf (step.Unread k place) = answer.Unread k place
 answerOf step.Repeat = answer.Repeat
 answerOf (step.Stray a) = answer.Stray (a .missing) (a .«given_up»)
 answerOf (step.Hold a on n) = answer.Held (a .missing) (a .«given_up»)

@@ -23,8 +23,18 @@ Holds i l a on n user pool =
 abbrev pub Ends : ℕ → Lane → Added → Bool → ℕ → ℕ → ℕ → Type 0
 Ends i l a on n user room = Counts i l a 1 false 0 × (n ≡ cond on (l .octets) 0 + user) × (n ≤ room) × (l .octets ≤ poolOctets)
 
+-- a step that refuses, after which nothing is left to do
+abbrev pub isRefusal : Step → Bool
+isRefusal (step.Refuse k) = true
+isRefusal (step.Unread k place) = true
+isRefusal step.Repeat = false
+isRefusal (step.Stray a) = false
+isRefusal (step.Hold a on n) = false
+isRefusal (step.Unit a on n) = false
+
 abbrev pub Ready : ℕ → Lane → Step → ℕ → ℕ → ℕ → Type 0
 Ready i l (step.Refuse k) user pool room = Unit {0}
+Ready i l (step.Unread k place) user pool room = Unit {0}
 Ready i l step.Repeat user pool room = Unit {0}
 Ready i l (step.Stray a) user pool room = Counts i l a 0 false 0
 Ready i l (step.Hold a on n) user pool room = Holds i l a on n user pool

@@ -20,9 +20,11 @@ heldKind = 3
 abbrev pub unitKind : ℕ
 unitKind = 4
 
--- no refusal (0), then which answer, missing, 1 if a group was given up (0 and no for Repeat), and a unit's length; or the number of the refusal
+-- no refusal (0), then which answer, missing, 1 if a group was given up (0 and no for Repeat), and a unit's length; or the number of the refusal, with its
+-- place where the reader gave it (1 to 7), and else alone (8 and above)
 abbrev pub told : Answer → List ℕ
 told (answer.Refused k) = k ∷ []
+told (answer.Unread k place) = k ∷ place ∷ []
 told answer.Repeat = 0 ∷ repeatKind ∷ 0 ∷ 0 ∷ []
 told (answer.Stray missing givenUp) = 0 ∷ strayKind ∷ missing ∷ one givenUp ∷ []
 told (answer.Held missing givenUp) = 0 ∷ heldKind ∷ missing ∷ one givenUp ∷ []
@@ -31,6 +33,7 @@ told (answer.Unit n missing givenUp) = 0 ∷ unitKind ∷ missing ∷ one givenU
 -- what a step tells
 abbrev pub telling : Step → List ℕ
 telling (step.Refuse k) = k ∷ []
+telling (step.Unread k place) = k ∷ place ∷ []
 telling step.Repeat = 0 ∷ repeatKind ∷ 0 ∷ 0 ∷ []
 telling (step.Stray a) = 0 ∷ strayKind ∷ a .missing ∷ one (a .«given_up») ∷ []
 telling (step.Hold a on n) = 0 ∷ heldKind ∷ a .missing ∷ one (a .«given_up») ∷ []

@@ -28,12 +28,19 @@ use state::is_unsound;
 use state::is_within;
 use taking::answer_of;
 use taking::carry_out;
+use taking::is_refusal;
 use taking::settled;
 use taking::user_part;
 
 // What a packet is answered: packets missing before it, and whether a group was given up. A unit's octets lie at the front of the output.
 pub enum Answer {
+    // 8 and above
     Refused(u8),
+    // 1 to 7: what the reader refuses, with its place from the packet's start
+    Unread {
+        number: u8,
+        place: u32,
+    },
     Repeat,
     Stray {
         missing: u16,
@@ -137,6 +144,12 @@ pub fn take_packet(
         CLOSED
     };
     let step = step_of(s, l, lane, octets, pool.len(), out.len());
+    if is_refusal(step) {
+        return Answered {
+            answer: answer_of(step),
+            state: after,
+        };
+    }
     let user = user_part(octets, l.settings.secondary);
     let next = carry_out(l, &mut after.marks, lane, step, user, pool, out);
     if lane < count {

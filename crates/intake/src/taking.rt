@@ -11,7 +11,7 @@ ghost use Rattle.lane.specs.Lane.{closed, fine};
 ghost use Rattle.grouping.specs.Steps.{counted, laneAfter};
 ghost use Rattle.intake.specs.Calls.{settle};
 ghost use Rattle.intake.specs.After.{grown, groupOf, answerOf, marksAfter, poolAfter, outAfter};
-ghost use Rattle.intake.specs.Ready.{Counts, Holds, Ends, Ready};
+ghost use Rattle.intake.specs.Ready.{Counts, Holds, Ends, isRefusal, Ready};
 use crate::Answer;
 use crate::closing::release;
 use crate::lanes::with_group;
@@ -192,6 +192,7 @@ pub(crate) fn carry_out(
 {
     match step {
         Step::Refuse(_) => l,
+        Step::Unread { .. } => l,
         Step::Repeat => l,
         Step::Stray(a) => stray(l, marks, lane, a),
         Step::Hold {
@@ -207,12 +208,27 @@ pub(crate) fn carry_out(
     }
 }
 
+// Whether the step refuses, after which nothing is left to do.
+pub(crate) fn is_refusal(step: Step) -> bool
+    ensures { λ r. ⌜ r ≡ isRefusal step ⌝ }
+{
+    match step {
+        Step::Refuse(_) => true,
+        Step::Unread { .. } => true,
+        Step::Repeat => false,
+        Step::Stray(_) => false,
+        Step::Hold { .. } => false,
+        Step::Unit { .. } => false,
+    }
+}
+
 // What a step is answered.
 pub(crate) fn answer_of(step: Step) -> Answer
     ensures { λ r. ⌜ r ≡ answerOf step ⌝ }
 {
     match step {
         Step::Refuse(number) => Answer::Refused(number),
+        Step::Unread { number, place } => Answer::Unread { number, place },
         Step::Repeat => Answer::Repeat,
         Step::Stray(a) => Answer::Stray {
             missing: a.missing,

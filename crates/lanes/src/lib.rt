@@ -4,14 +4,15 @@ ghost use mathlib.Core.Path.{_≡_};
 ghost use lib.ListN.{length};
 ghost use Rattle.state.specs.State.{freshState, sound};
 ghost use Rattle.intake.specs.After.{opening, closing, closingOut, taking, takingPool, takingOut};
-ghost use Rattle.lanes.specs.Numbers.{telling, numbered};
+ghost use Rattle.lanes.specs.Numbers.{refusedNumbers, takenNumbers, telling, numbered};
 use intake::Answer;
 use intake::Answered;
 use intake::Changed;
 use lane::Settings;
 use state::State;
 
-// What a packet is answered, in numbers. kind: 0 refused, 1 repeat, 2 stray, 3 held, 4 unit; given_up: a group was given up.
+// What a packet is answered, in numbers. kind: 0 refused, 1 repeat, 2 stray, 3 held, 4 unit; given_up: a group was given up; place: of a refusal
+// 1 to 7, else 0.
 #[repr(C)]
 pub struct Numbered {
     pub refusal: u8,
@@ -19,6 +20,7 @@ pub struct Numbered {
     pub given_up: bool,
     pub missing: u16,
     pub octets: usize,
+    pub place: usize,
     pub state: State,
 }
 
@@ -58,51 +60,51 @@ struct Numbers {
     given_up: bool,
     missing: u16,
     octets: usize,
+    place: usize,
+}
+
+// Those of a refusal, with its place or 0.
+fn refused(refusal: u8, place: u32) -> Numbers
+    ensures { λ r. ⌜ r ≡ refusedNumbers refusal place ⌝ }
+{
+    Numbers {
+        refusal,
+        kind: 0,
+        given_up: false,
+        missing: 0,
+        octets: 0,
+        place: place as usize,
+    }
+}
+
+// Those of any other answer.
+fn taken(kind: u8, given_up: bool, missing: u16, octets: usize) -> Numbers
+    ensures { λ r. ⌜ r ≡ takenNumbers kind «given_up» missing octets ⌝ }
+{
+    Numbers {
+        refusal: 0,
+        kind,
+        given_up,
+        missing,
+        octets,
+        place: 0,
+    }
 }
 
 fn numbers_of(answer: Answer) -> Numbers
     ensures { λ r. ⌜ r ≡ telling answer ⌝ }
 {
     match answer {
-        Answer::Refused(refusal) => Numbers {
-            refusal,
-            kind: 0,
-            given_up: false,
-            missing: 0,
-            octets: 0,
-        },
-        Answer::Repeat => Numbers {
-            refusal: 0,
-            kind: 1,
-            given_up: false,
-            missing: 0,
-            octets: 0,
-        },
-        Answer::Stray { missing, given_up } => Numbers {
-            refusal: 0,
-            kind: 2,
-            given_up,
-            missing,
-            octets: 0,
-        },
-        Answer::Held { missing, given_up } => Numbers {
-            refusal: 0,
-            kind: 3,
-            given_up,
-            missing,
-            octets: 0,
-        },
+        Answer::Refused(number) => refused(number, 0),
+        Answer::Unread { number, place } => refused(number, place),
+        Answer::Repeat => taken(1, false, 0, 0),
+        Answer::Stray { missing, given_up } => taken(2, given_up, missing, 0),
+        Answer::Held { missing, given_up } => taken(3, given_up, missing, 0),
         Answer::Unit {
             octets,
             missing,
             given_up,
-        } => Numbers {
-            refusal: 0,
-            kind: 4,
-            given_up,
-            missing,
-            octets,
-        },
+        } => taken(4, given_up, missing, octets),
     }
 }
 
@@ -119,6 +121,7 @@ fn in_numbers(a: Answered) -> Numbered
         given_up: n.given_up,
         missing: n.missing,
         octets: n.octets,
+        place: n.place,
         state,
     }
 }

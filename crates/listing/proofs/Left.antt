@@ -9,11 +9,11 @@ use lib.Dec.{eqb}
 use lib.ListN.{length, drop}
 use Rattle.octets.proofs.Order.{either}
 use Rattle.packet.specs.Space.{version}
-use Rattle.reading.specs.Reading.{refusal}
+use Rattle.reading.specs.Reading.{refusal, place as placeIn}
 use Rattle.packet.specs.declared.Packet.{Packet}
 use Rattle.packet.specs.declared.Packet.the-variants.{Space, Encapsulation, Refused}
 use Rattle.reading.proofs.Answers.{Says, says}
-use Rattle.walk.specs.Walk.{Finds, placesFrom, places, end, stop}
+use Rattle.walk.specs.Walk.{Finds, placesFrom, places, end, stop, stopPlace}
 use Rattle.walk.specs.declared.Found.{Found}
 use Rattle.walk.proofs.Going.{Going, Turn, turned, at-end, at-refusal}
 use Rattle.listing.specs.Listing.{packetLine, packetLines, refusedLine, endLine, listing}
@@ -21,7 +21,7 @@ use Rattle.listing.specs.Lines.{lineOf}
 
 -- the lines from index at on, with n packets behind it
 abbrev pub left : List ℕ → ℕ → ℕ → List ℕ
-left s at n = packetLines s (placesFrom (length s - n) s at) ++ refusedLine (end s) (stop s) ++ endLine (end s) (length (places s))
+left s at n = packetLines s (placesFrom (length s - n) s at) ++ refusedLine (end s) (stop s) (stopPlace s) ++ endLine (end s) (length (places s))
 
 pub left-all : (s : List ℕ) → left s 0 0 ≡ listing s
 unfolding listing places
@@ -32,14 +32,14 @@ read-line : (at : ℕ) (p : Packet) (s : List ℕ) → Says p s → refusal s �
 unfolding packetLine
 read-line at (Space t x a f c n) s w e = simp (eq-eqb (version s) 0 (w .1), w .4, w .5, w .6, w .7)
 read-line at (Encapsulation p u x h n) s w e = simp (ne-eqb (version s) 0 (w .1), w .2, w .4, w .5, w .6)
-read-line at (Refused k) s w e = absurd (omega arith)
+read-line at (Refused q k) s w e = absurd (omega arith)
 
 -- and so is the line of a refusal
-refused-line : (at : ℕ) (p : Packet) (s : List ℕ) → Says p s → (refusal s ≡ 0 → ⊥) → lineOf at p ≡ refusedLine at (refusal s)
+refused-line : (at : ℕ) (p : Packet) (s : List ℕ) → Says p s → (refusal s ≡ 0 → ⊥) → lineOf at p ≡ refusedLine at (refusal s) (placeIn s)
 unfolding refusedLine
 refused-line at (Space t x a f c n) s w u = absurd (u (w .0))
 refused-line at (Encapsulation p u′ x h n) s w u = absurd (u (w .0))
-refused-line at (Refused k) s w u = rw (w .0) (simp (ne-eqb k 0 (λ z. u (w .0 ∙ z))))
+refused-line at (Refused q k) s w u = rw (w .0, w .2) (simp (ne-eqb k 0 (λ z. u (w .0 ∙ z))))
 
 module _ (s : List ℕ) (at n : ℕ) (g : Going s at n) where
   -- at the end only the last line is left
@@ -63,8 +63,8 @@ module _ (s : List ℕ) (at n : ℕ) (g : Going s at n) where
     unfolding packetLines
     left-refused u =
         let v : refusal (drop at s) ≡ 0 → ⊥ = λ z. u (f .number ∙ z) in
-        let t = at-refusal s at n g v here (f .number) in
-        simp (t .no-more, t .stop-here, t .end-here, t .all-counted, f .number, ← (refused-line at (found .packet) (drop at s) told-there v))
+        let t = at-refusal s at n g v here (f .number) refl in
+        simp (t .no-more, t .stop-here, t .place-here, t .end-here, t .all-counted, f .number, ← (refused-line at (found .packet) (drop at s) told-there v))
 
     -- whatever is found, its line comes first
     pub left-begins : (rest : List ℕ) × (left s at n ≡ lineOf at (found .packet) ++ rest)

@@ -1,28 +1,29 @@
--- No text for a recording is longer than 1,310,752 octets: within 65,536 octets each packet has at most 20 octets of text for each octet of
--- its own, and the last two lines have 16 each.
+-- No text for a recording is longer than 1,310,758 octets: within 65,536 octets each packet has at most 20 octets of text for each octet of
+-- its own, and the last two lines have 22 and 16.
 use Prim.Native.Nat.{ℕ, suc, _+_, _*_, _-_, _^_, _≤_, _<_}
 use mathlib.Core.Path.{_≡_, refl}
 use mathlib.Core.List.{List, [], _∷_}
 use mathlib.Core.Bool.{Bool, true, false, cond}
 use native.Mathlib.Omega.{arith}
-use borrow.Author.Tests.{eq-eqb, ne-eqb, eqb-true, eqb-false, leb-true}
+use borrow.Author.Tests.{eq-eqb, ne-eqb, leb-true}
 use lib.Dec.{eqb, leb}
 use lib.ListN.{length, drop, length-append, length-drop}
 use Rattle.octets.proofs.Order.{either}
 use Rattle.packet.specs.Space.{version, apid, flags, count, dataOctets}
 use Rattle.packet.specs.Encapsulation.{protocol, extension, encapHeader, encapSize}
-use Rattle.reading.specs.Reading.{refusal, size}
+use Rattle.reading.specs.Reading.{refusal, place as placeIn, size}
 use Rattle.reading.specs.Causes.{Whole, space, encapsulation}
-use Rattle.reading.proofs.Exactly.{exactly, exactly-whole, numbered}
+use Rattle.reading.proofs.Exactly.{exactly-whole, refusal-most}
+use Rattle.places.proofs.Honest.{place-within}
 use Rattle.reading.proofs.Within.{HeaderIs, one, two, four, eight, header-is}
-use Rattle.walk.specs.Walk.{next, places, end, stop}
+use Rattle.walk.specs.Walk.{next, places, end, stop, stopPlace}
 use Rattle.walk.proofs.Rises.{Run, rises}
 use Rattle.text.specs.Text.{ascii, numbers}
 use Rattle.listing.specs.Listing.{lineEnd, line, packetLine, packetLines, refusedLine, endLine, listing, longest, recordingText}
 use Rattle.text.proofs.Short.{digits-below, number-below}
 
 abbrev pub mostListed : ℕ
-mostListed = 1310752
+mostListed = 1310758
 
 -- a line with four numbers, by their digits
 line-of-four : (at : ℕ) (word : List ℕ) (a b c d : ℕ) (i j k l : ℕ) → at < 10 ^ 5 → length word ≡ 6
@@ -69,13 +70,10 @@ run-room s (p ∷ ps) at e n h (same, read, rise, run) =
     let one = packet-room at (drop at s) (omega (arith, rise, more .1)) (omega (arith, length-drop at s)) (exactly-whole (drop at s) .0 read) in
     rw same (omega (arith, more, one, length-append (packetLine at (drop at s)) (packetLines s ps)), omega (arith, rise, more .1))
 
-refusal-small : (s : List ℕ) → refusal s ≤ 7
-refusal-small s = either (eqb (refusal s) 0) (λ t. omega (arith, eqb-true (refusal s) 0 t)) (λ f. omega (arith, numbered (exactly s (refusal s) (omega (arith, eqb-false (refusal s) 0 f)) .0 refl)))
-
-refused-room : (at k : ℕ) → at < 10 ^ 5 → k < 10 → (b : Bool) → length (cond b [] (line at (ascii " refused") (k ∷ []))) ≤ 16
+refused-room : (at k q : ℕ) → at < 10 ^ 5 → k < 10 → q < 10 ^ 5 → (b : Bool) → length (cond b [] (line at (ascii " refused") (k ∷ q ∷ []))) ≤ 22
 unfolding line lineEnd numbers
-refused-room at k h s true = omega arith
-refused-room at k h s false = simp length-append (omega (arith, digits-below 4 at h, number-below 0 k s))
+refused-room at k q h s p true = omega arith
+refused-room at k q h s p false = simp length-append (omega (arith, digits-below 4 at h, number-below 0 k s, number-below 4 q p))
 
 end-room : (at n : ℕ) → at < 10 ^ 5 → n < 10 ^ 5 → length (endLine at n) ≤ 16
 unfolding endLine lineEnd numbers
@@ -83,16 +81,21 @@ end-room at n h k = simp length-append (omega (arith, number-below 4 at h, numbe
 
 stop-small : (s : List ℕ) (b : Bool) → cond b 0 (refusal (drop (end s) s)) ≤ 7
 stop-small s true = omega arith
-stop-small s false = refusal-small (drop (end s) s)
+stop-small s false = refusal-most (drop (end s) s)
+
+place-small : (s : List ℕ) (b : Bool) → cond b 0 (placeIn (drop (end s) s)) ≤ length s
+place-small s true = omega arith
+place-small s false = omega (arith, place-within (drop (end s) s), length-drop (end s) s)
 
 pub listing-room : (s : List ℕ) → length s ≤ longest → length (listing s) ≤ mostListed
-unfolding listing refusedLine stop
+unfolding listing refusedLine stop stopPlace
 listing-room s n =
     let r = rises s in
     let l = run-room s (places s) 0 (end s) n (r .1) (r .0) in
     let k = stop-small s (eqb (end s) (length s)) in
+    let q = place-small s (eqb (end s) (length s)) in
     simp length-append
-    (omega (arith, l, r .1, refused-room (end s) (stop s) (omega (arith, r .1)) (omega (arith, k)) (eqb (stop s) 0), end-room (end s) (length (places s)) (omega (arith, r .1)) (omega (arith, l, r .1))))
+    (omega (arith, l, r .1, refused-room (end s) (stop s) (stopPlace s) (omega (arith, r .1)) (omega (arith, k)) (omega (arith, q)) (eqb (stop s) 0), end-room (end s) (length (places s)) (omega (arith, r .1)) (omega (arith, l, r .1))))
 
 pub room : (s : List ℕ) → length (recordingText s) ≤ mostListed
 unfolding recordingText

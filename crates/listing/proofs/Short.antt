@@ -7,6 +7,7 @@ use Rattle.packet.specs.declared.Packet.{Packet}
 use Rattle.packet.specs.declared.Packet.the-variants.{Space, Encapsulation, Refused}
 use Rattle.reading.proofs.Exactly.{exactly, numbered}
 use Rattle.reading.proofs.Answers.{Says, part-told}
+use Rattle.places.proofs.Honest.{place-within}
 use Rattle.text.specs.Text.{ascii, decimal, numbers}
 use Rattle.text.proofs.Short.{Small, decimal-short, numbers-short}
 use Rattle.listing.specs.Listing.{lineEnd, line, endLine}
@@ -34,5 +35,6 @@ packet-short at (Space t x a f c n) s w h k =
 packet-short at (Encapsulation p u x l n) s w h k =
     line-short at (ascii " encap") (p ∷ x ∷ l ∷ n ∷ []) h
     (omega (arith, w .2), (omega (arith, w .4), (omega (arith, part-told (Encapsulation p u x l n) s w .1), (omega (arith, part-told (Encapsulation p u x l n) s w .1), tt)))) (omega arith) (omega arith)
-packet-short at (Refused k) s w h l =
-    line-short at (ascii " refused") (k ∷ []) h (omega (arith, numbered (exactly s k (w .1) .0 (w .0))), tt) (omega arith) (omega arith)
+packet-short at (Refused q k) s w h l =
+    line-short at (ascii " refused") (k ∷ q ∷ []) h
+    (omega (arith, numbered (exactly s k (w .1) .0 (w .0))), (omega (arith, w .2, place-within s), tt)) (omega arith) (omega arith)

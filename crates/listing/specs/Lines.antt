@@ -9,4 +9,4 @@ use Rattle.listing.specs.Listing.{line}
 abbrev pub lineOf : ℕ → Packet → List ℕ
 lineOf at (Space t x a f c n) = line at (ascii " space") (a ∷ f ∷ c ∷ n ∷ [])
 lineOf at (Encapsulation p u x h n) = line at (ascii " encap") (p ∷ x ∷ h ∷ n ∷ [])
-lineOf at (Refused k) = line at (ascii " refused") (k ∷ [])
+lineOf at (Refused place k) = line at (ascii " refused") (k ∷ place ∷ [])

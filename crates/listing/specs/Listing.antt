@@ -7,7 +7,7 @@ use lib.Dec.{eqb, leb}
 use Rattle.packet.specs.Space.{apid, flags, count, dataOctets}
 use Rattle.packet.specs.Encapsulation.{protocol, extension, encapHeader, encapSize}
 use Rattle.reading.specs.Reading.{isSpace}
-use Rattle.walk.specs.Walk.{places, end, stop}
+use Rattle.walk.specs.Walk.{places, end, stop, stopPlace}
 use Rattle.text.specs.Text.{ascii, decimal, numbers}
 
 -- the numbers that end a line
@@ -29,16 +29,16 @@ unfoldable pub packetLines : List ℕ → List ℕ → List ℕ
 packetLines s [] = []
 packetLines s (at ∷ more) = packetLine at (drop at s) ++ packetLines s more
 
--- `refused` gives the number and appears only if there is one
-unfoldable pub refusedLine : ℕ → ℕ → List ℕ
-refusedLine at k = cond (eqb k 0) [] (line at (ascii " refused") (k ∷ []))
+-- `refused` gives the number and its place, and appears only if there is one
+unfoldable pub refusedLine : ℕ → ℕ → ℕ → List ℕ
+refusedLine at k place = cond (eqb k 0) [] (line at (ascii " refused") (k ∷ place ∷ []))
 
 -- `end` gives octets in whole packets and their count
 unfoldable pub endLine : ℕ → ℕ → List ℕ
 endLine at packets = ascii "end" ++ lineEnd (at ∷ packets ∷ [])
 
 unfoldable pub listing : List ℕ → List ℕ
-listing s = packetLines s (places s) ++ refusedLine (end s) (stop s) ++ endLine (end s) (length (places s))
+listing s = packetLines s (places s) ++ refusedLine (end s) (stop s) (stopPlace s) ++ endLine (end s) (length (places s))
 
 -- what the program prints: at most 65,536 octets are listed; more: the single line `too long`
 abbrev pub longest : ℕ

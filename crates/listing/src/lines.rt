@@ -64,7 +64,10 @@ pub(crate) fn put_packet(out: &mut [u8], at: usize, place: usize, p: Packet) -> 
             b" encap",
             &[id as u64, extension as u64, header as u64, octets as u64],
         ),
-        Packet::Refused(number) => put_line(out, at, place, b" refused", &[number as u64]),
+        Packet::Refused {
+            number,
+            place: fault,
+        } => put_line(out, at, place, b" refused", &[number as u64, fault as u64]),
     }
 }
 

@@ -1,6 +1,6 @@
 // What a packet is, Space or Encapsulation: the fields that reading tells, and its sizes.
 ghost use mathlib.Core.Path.{_≡_};
-ghost use Rattle.packet.specs.Told.{numberOf, sizeOf, headerOf};
+ghost use Rattle.packet.specs.Told.{numberOf, placeOf, sizeOf, headerOf};
 
 // The octets of a Space Packet's header.
 pub const SPACE_HEADER: usize = 6;
@@ -41,8 +41,12 @@ pub enum Packet {
         header: u8,
         octets: u32,
     },
-    // one of the numbers 1 to 7
-    Refused(u8),
+    // the place of the octet at fault, counted from the packet's start, or for 1 the number of octets; and one of the numbers 1 to 7. What is cut
+    // short has fewer octets than the limit, so 32 bits suffice for the place
+    Refused {
+        place: u32,
+        number: u8,
+    },
 }
 
 // The number of the refusal that p tells, or 0.
@@ -52,7 +56,21 @@ pub fn number_of(p: Packet) -> u8
     match p {
         Packet::Space { .. } => 0,
         Packet::Encapsulation { .. } => 0,
-        Packet::Refused(number) => number,
+        Packet::Refused { number, .. } => number,
+    }
+}
+
+// What is told for a place where nothing is refused.
+const NO_PLACE: u32 = 0;
+
+// The place of the refusal that p tells, or 0.
+pub fn place_of(p: Packet) -> u32
+    ensures { λ r. ⌜ r ≡ placeOf p ⌝ }
+{
+    match p {
+        Packet::Space { .. } => NO_PLACE,
+        Packet::Encapsulation { .. } => NO_PLACE,
+        Packet::Refused { place, .. } => place,
     }
 }
 
@@ -63,7 +81,7 @@ pub fn header_of(p: Packet) -> usize
     match p {
         Packet::Space { .. } => SPACE_HEADER,
         Packet::Encapsulation { header, .. } => header as usize,
-        Packet::Refused(_) => 0,
+        Packet::Refused { .. } => 0,
     }
 }
 
@@ -74,6 +92,6 @@ pub fn size_of(p: Packet) -> usize
     match p {
         Packet::Space { octets, .. } => SPACE_HEADER + octets as usize,
         Packet::Encapsulation { header, octets, .. } => header as usize + octets as usize,
-        Packet::Refused(_) => 0,
+        Packet::Refused { .. } => 0,
     }
 }

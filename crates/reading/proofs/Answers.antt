@@ -7,17 +7,18 @@ use mathlib.Core.Bool.{Bool, true, false, cond}
 use native.Mathlib.Omega.{arith}
 use borrow.Author.Tests.{eq-eqb, ne-eqb, eqb-true, eqb-false}
 use lib.Dec.{eqb}
-use lib.ListN.{length, take, drop}
+use lib.ListN.{length, take, drop, getD}
 use Rattle.octets.specs.Output.{leading}
 use Rattle.packet.specs.Space.{version, packetType, secondary, apid, flags, count, dataOctets}
 use Rattle.packet.specs.Encapsulation.{protocol, user, extension, encapHeader, encapSize}
-use Rattle.reading.specs.Reading.{header, size, refusal, fields, reading, content, contentAt}
-use Rattle.packet.specs.Told.{told, numberOf, sizeOf, headerOf}
+use Rattle.reading.specs.Places.{faultAt}
+use Rattle.reading.specs.Reading.{header, size, refusedBy, refusal, place, fields, reading, content, contentAt}
+use Rattle.packet.specs.Told.{told, numberOf, placeOf, sizeOf, headerOf}
 use Rattle.packet.specs.declared.Packet.{Packet}
 use Rattle.packet.specs.declared.Packet.the-variants.{Space, Encapsulation, Refused}
 use Rattle.packet.proofs.Answers.{told-fixes}
 use Rattle.reading.specs.Causes.{Cause}
-use Rattle.reading.proofs.Exactly.{gives, whole-gives, numbered, verdict, refused, accepted}
+use Rattle.reading.proofs.Exactly.{gives, gives-place, whole-gives, numbered, verdict, refused, accepted}
 use Rattle.reading.proofs.Within.{Within, within}
 
 -- the promise permits one answer
@@ -30,7 +31,7 @@ Says (Space t x a f c n) s =
     (refusal s ≡ 0) × (version s ≡ 0) × (t ≡ packetType s) × (x ≡ secondary s) × (a ≡ apid s) × (f ≡ flags s) × (c ≡ count s) × (n ≡ dataOctets s)
 Says (Encapsulation p u x h n) s =
     (refusal s ≡ 0) × (version s ≡ 0 → ⊥) × (p ≡ protocol s) × (u ≡ user s) × (x ≡ extension s) × (h ≡ encapHeader s) × (n ≡ encapSize s - encapHeader s)
-Says (Refused k) s = (refusal s ≡ k) × (0 < k)
+Says (Refused q k) s = (refusal s ≡ k) × (0 < k) × (q ≡ place s)
 
 -- of a whole packet, at the test for a Space Packet; and of one that is refused
 at-whole : (p : Packet) (s : List ℕ) (kind : Bool) → refusal s ≡ 0 → eqb (version s) 0 ≡ kind
@@ -40,11 +41,14 @@ at-whole (Space t x a f c n) s true g k e = (g, eqb-true _ _ k, cc, cc, cc, cc, 
 at-whole (Encapsulation p u x h n) s false g k e = (g, eqb-false _ _ k, cc, cc, cc, cc, cc)
 at-whole (Space t x a f c n) s false g k e = let z : _≡_ {A = ℕ} 0 7 = cc in absurd (omega arith)
 at-whole (Encapsulation p u x h n) s true g k e = let z : _≡_ {A = ℕ} 0 7 = cc in absurd (omega arith)
-at-whole (Refused k) s true g w e = let z : _≡_ {A = ℕ} 0 1 = cc in absurd (omega arith)
-at-whole (Refused k) s false g w e = let z : _≡_ {A = ℕ} 0 1 = cc in absurd (omega arith)
+at-whole (Refused q k) s true g w e = let z : _≡_ {A = ℕ} 0 1 = cc in absurd (omega arith)
+at-whole (Refused q k) s false g w e = let z : _≡_ {A = ℕ} 0 1 = cc in absurd (omega arith)
 
-at-cause : (p : Packet) (s : List ℕ) {n : ℕ} → Cause s n → told p ≡ n ∷ [] → Says p s
-at-cause (Refused k) s why e = let q : k ≡ _ = ap leading e in (gives why ∙ sym q, omega (arith, numbered why))
+at-cause : (p : Packet) (s : List ℕ) {n : ℕ} → Cause s n → told p ≡ refusedBy s n → Says p s
+at-cause (Refused q k) s why e =
+    let n : k ≡ _ = ap leading e in
+    let at : q ≡ _ = ap (λ l. getD l 1 0) e in
+    (gives why ∙ sym n, omega (arith, numbered why), at ∙ sym (gives-place why))
 at-cause (Space t x a f c n) s why e = absurd (omega (arith, ap leading e, numbered why))
 at-cause (Encapsulation p u x h n) s why e = absurd (omega (arith, ap leading e, numbered why))
 
@@ -57,7 +61,17 @@ says p s e =
 pub number-told : (p : Packet) (s : List ℕ) → Says p s → numberOf p ≡ refusal s
 number-told (Space t x a f c n) s w = sym (w .0)
 number-told (Encapsulation p u x h n) s w = sym (w .0)
-number-told (Refused k) s w = sym (w .0)
+number-told (Refused q k) s w = sym (w .0)
+
+-- where nothing is refused there is no place, which is told as 0
+pub none-placed : (s : List ℕ) → refusal s ≡ 0 → 0 ≡ place s
+unfolding place faultAt
+none-placed s e = rw e
+
+pub place-told : (p : Packet) (s : List ℕ) → Says p s → placeOf p ≡ place s
+place-told (Space t x a f c n) s w = none-placed s (w .0)
+place-told (Encapsulation p u x h n) s w = none-placed s (w .0)
+place-told (Refused q k) s w = w .2
 
 -- a packet that was read has the header and the size that the octets say
 pub size-told : (p : Packet) (s : List ℕ) → Says p s → refusal s ≡ 0 → (headerOf p ≡ header s) × (sizeOf p ≡ size s)
@@ -66,7 +80,7 @@ size-told (Space t x a f c n) s w e = simp (eq-eqb (version s) 0 (w .1)) (refl, 
 size-told (Encapsulation p u x h n) s w e =
     let b : Within s = within s e in
     simp (ne-eqb (version s) 0 (w .1)) (w .5, omega (arith, w .5, w .6, simp (ne-eqb (version s) 0 (w .1)) at b))
-size-told (Refused k) s w e = absurd (omega arith)
+size-told (Refused q k) s w e = absurd (omega arith)
 
 -- the part from a to e of s is the data that the definition says, where it says, and lies within s
 abbrev pub PartIs : ℕ → ℕ → List ℕ → Type 0
@@ -83,4 +97,4 @@ refused-part s h = simp (ne-eqb (refusal s) 0 (λ z. omega arith)) (omega arith,
 pub part-told : (p : Packet) (s : List ℕ) → Says p s → PartIs (headerOf p) (sizeOf p) s
 part-told (Space t x a f c n) s w = read-part s (w .0) (size-told (Space t x a f c n) s w (w .0))
 part-told (Encapsulation p u x h n) s w = read-part s (w .0) (size-told (Encapsulation p u x h n) s w (w .0))
-part-told (Refused k) s w = refused-part s (omega (arith, w .0, w .1))
+part-told (Refused q k) s w = refused-part s (omega (arith, w .0, w .1))

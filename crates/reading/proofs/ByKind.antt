@@ -9,24 +9,24 @@ use lib.ListN.{length}
 use Rattle.octets.specs.Order.{Test, _gives_, first}
 use Rattle.packet.specs.Space.{version, spaceHeader, spaceSize, flaggedIdle}
 use Rattle.packet.specs.Encapsulation.{limit, encapHeader, encapSize, misnamed, emptyNamed}
-use Rattle.reading.specs.Reading.{header, size, readingTests, fields, reading}
+use Rattle.reading.specs.Reading.{header, size, refusedBy, readingTests, fields, reading}
 use Rattle.reading.specs.Causes.{Version}
 
 abbrev pub spaceTests : List ℕ → List (Test (List ℕ))
 spaceTests s =
-    (ltb (length s) spaceHeader gives (1 ∷ []))
-    ∷ (flaggedIdle s gives (3 ∷ []))
-    ∷ (ltb (length s) (spaceSize s) gives (1 ∷ []))
+    (ltb (length s) spaceHeader gives refusedBy s 1)
+    ∷ (flaggedIdle s gives refusedBy s 3)
+    ∷ (ltb (length s) (spaceSize s) gives refusedBy s 1)
     ∷ []
 
 abbrev pub encapTests : List ℕ → List (Test (List ℕ))
 encapTests s =
-    (ltb (length s) (encapHeader s) gives (1 ∷ []))
-    ∷ (misnamed s gives (7 ∷ []))
-    ∷ (ltb (encapSize s) (encapHeader s) gives (4 ∷ []))
-    ∷ (ltb limit (encapSize s) gives (5 ∷ []))
-    ∷ (emptyNamed s gives (6 ∷ []))
-    ∷ (ltb (length s) (encapSize s) gives (1 ∷ []))
+    (ltb (length s) (encapHeader s) gives refusedBy s 1)
+    ∷ (misnamed s gives refusedBy s 7)
+    ∷ (ltb (encapSize s) (encapHeader s) gives refusedBy s 4)
+    ∷ (ltb limit (encapSize s) gives refusedBy s 5)
+    ∷ (emptyNamed s gives refusedBy s 6)
+    ∷ (ltb (length s) (encapSize s) gives refusedBy s 1)
     ∷ []
 
 pub space-reading : (s : List ℕ) → Version 0 s → reading s ≡ first (0 ∷ fields s) (spaceTests s)

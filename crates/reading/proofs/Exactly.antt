@@ -3,7 +3,7 @@
 use Prim.Native.Nat.{ℕ, _≤_, _<_}
 use mathlib.Core.Path.{_≡_, sym, ap, subst, _∙_}
 use mathlib.Core.Logic.{_⊎_, inl, inr, ⊎-elim}
-use mathlib.Core.List.{List, [], _∷_}
+use mathlib.Core.List.{List, _∷_}
 use native.Mathlib.Omega.{arith}
 use borrow.Author.Tests.{eq-eqb, ne-eqb, lt-ltb, le-ltb, ltb-true, ltb-false, eqb-true, eqb-false}
 use lib.Dec.{ltb, eqb}
@@ -13,13 +13,14 @@ use Rattle.octets.specs.Order.{first, numbersOf}
 use Rattle.octets.proofs.Order.{either, leads-first}
 use Rattle.packet.specs.Space.{version, spaceHeader, spaceSize, flaggedIdle}
 use Rattle.packet.specs.Encapsulation.{limit, encapHeader, encapSize, misnamed, emptyNamed}
-use Rattle.reading.specs.Reading.{readingTests, refusal, fields, reading}
+use Rattle.reading.specs.Places.{faultAt}
+use Rattle.reading.specs.Reading.{refusedBy, readingTests, refusal, place, fields, reading}
 use Rattle.reading.specs.Causes.{Cause, no-octets, no-version, space-header, idle, space-packet, encap-header, names-nothing, less-than-header, over-limit, no-content, encap-packet}
 use Rattle.reading.specs.Causes.{Version, SpaceThere, EncapThere, EncapLong, EncapLimited, Whole, space, encapsulation}
 use Rattle.reading.proofs.ByKind.{space-reading, encap-reading}
 
 -- what is told
-tells : {s : List ℕ} {n : ℕ} → Cause s n → reading s ≡ n ∷ []
+tells : {s : List ℕ} {n : ℕ} → Cause s n → reading s ≡ refusedBy s n
 unfolding readingTests reading
 tells {s} (no-octets e) = simp (eq-eqb (length s) 0 e)
 tells {s} (no-version p u v) = simp (ne-eqb (length s) 0 (λ e. omega arith), ne-eqb (version s) 0 u, ne-eqb (version s) 7 v)
@@ -39,7 +40,7 @@ whole-tells {s} (space (t, i) h) = space-reading s (t .0) ∙ simp (le-ltb _ _ (
 whole-tells {s} (encapsulation ((((t, m), l), o), e) h) =
     encap-reading s (t .0) ∙ simp (le-ltb _ _ (t .1), m, le-ltb _ _ l, le-ltb _ _ o, e, le-ltb _ _ h)
 
-pub refused : {s : List ℕ} {n : ℕ} → Cause s n → n ∷ [] ≡ reading s
+pub refused : {s : List ℕ} {n : ℕ} → Cause s n → refusedBy s n ≡ reading s
 refused why = sym (tells why)
 
 pub accepted : {s : List ℕ} → Whole s → 0 ∷ fields s ≡ reading s
@@ -49,6 +50,10 @@ accepted w = sym (whole-tells w)
 pub gives : {s : List ℕ} {n : ℕ} → Cause s n → refusal s ≡ n
 unfolding refusal
 gives why = ap leading (tells why)
+
+pub gives-place : {s : List ℕ} {n : ℕ} → Cause s n → place s ≡ faultAt s n
+unfolding place
+gives-place {s} why = ap (faultAt s) (gives why)
 
 pub whole-gives : {s : List ℕ} → Whole s → refusal s ≡ 0
 unfolding refusal
@@ -114,6 +119,9 @@ module _ (s : List ℕ) where
 
   pub exactly-whole : (refusal s ≡ 0 → Whole s) × (Whole s → refusal s ≡ 0)
   exactly-whole = (λ e. ⊎-elim (λ w. w) (λ k. absurd (omega (arith, gives (k .1), numbered (k .1)))) verdict, whole-gives)
+
+pub refusal-most : (s : List ℕ) → refusal s ≤ 7
+refusal-most s = ⊎-elim (λ w. omega (arith, whole-gives w)) (λ k. omega (arith, gives (k .1), numbered (k .1))) (verdict s)
 
 -- and it is what the order of the numbers gives
 pub in-order : (s : List ℕ) → refusal s ≡ first 0 (numbersOf (readingTests s))

@@ -8,6 +8,7 @@ use Rattle.octets.specs.Order.{Test, _gives_, first}
 use Rattle.octets.specs.Output.{leading}
 use Rattle.packet.specs.Space.{version, packetType, secondary, apid, flags, count, spaceHeader, dataOctets, spaceSize, flaggedIdle}
 use Rattle.packet.specs.Encapsulation.{limit, protocol, encapHeader, user, extension, encapSize, misnamed, emptyNamed}
+use Rattle.reading.specs.Places.{faultAt}
 
 abbrev pub isSpace : List ℕ → Bool
 isSpace s = eqb (version s) 0
@@ -22,24 +23,28 @@ header s = cond (isSpace s) spaceHeader (encapHeader s)
 unfoldable pub size : List ℕ → ℕ
 size s = cond (isSpace s) (spaceSize s) (encapSize s)
 
+-- a refused reading tells the number n and its place
+abbrev pub refusedBy : List ℕ → ℕ → List ℕ
+refusedBy s n = n ∷ faultAt s n ∷ []
+
 -- 3, or 7, 4, 5, 6
 abbrev pub kindTests : List ℕ → List (Test (List ℕ))
 kindTests s =
     cond (isSpace s)
-    ((flaggedIdle s gives (3 ∷ [])) ∷ [])
-    ((misnamed s gives (7 ∷ []))
-    ∷ (ltb (encapSize s) (encapHeader s) gives (4 ∷ []))
-    ∷ (ltb limit (encapSize s) gives (5 ∷ []))
-    ∷ (emptyNamed s gives (6 ∷ []))
+    ((flaggedIdle s gives refusedBy s 3) ∷ [])
+    ((misnamed s gives refusedBy s 7)
+    ∷ (ltb (encapSize s) (encapHeader s) gives refusedBy s 4)
+    ∷ (ltb limit (encapSize s) gives refusedBy s 5)
+    ∷ (emptyNamed s gives refusedBy s 6)
     ∷ [])
 
 -- 1 for no octets, 2, 1 for the header, then 3, or 7, 4, 5, 6, then 1 for the packet
 unfoldable pub readingTests : List ℕ → List (Test (List ℕ))
 readingTests s =
-    (eqb (length s) 0 gives (1 ∷ []))
-    ∷ (not (isSpace s || isEncapsulation s) gives (2 ∷ []))
-    ∷ (ltb (length s) (header s) gives (1 ∷ []))
-    ∷ (kindTests s ++ (ltb (length s) (size s) gives (1 ∷ [])) ∷ [])
+    (eqb (length s) 0 gives refusedBy s 1)
+    ∷ (not (isSpace s || isEncapsulation s) gives refusedBy s 2)
+    ∷ (ltb (length s) (header s) gives refusedBy s 1)
+    ∷ (kindTests s ++ (ltb (length s) (size s) gives refusedBy s 1) ∷ [])
 
 -- the version, and the fields that a packet of that version has
 unfoldable pub fields : List ℕ → List ℕ
@@ -48,13 +53,17 @@ fields s =
     (0 ∷ packetType s ∷ secondary s ∷ apid s ∷ flags s ∷ count s ∷ dataOctets s ∷ [])
     (7 ∷ protocol s ∷ user s ∷ extension s ∷ encapHeader s ∷ (encapSize s - encapHeader s) ∷ [])
 
--- what reading tells: 0 and the fields, or the refusal
+-- what reading tells: 0 and the fields, or the refusal with its place
 unfoldable pub reading : List ℕ → List ℕ
 reading s = first (0 ∷ fields s) (readingTests s)
 
 -- the refusal alone
 unfoldable pub refusal : List ℕ → ℕ
 refusal s = leading (reading s)
+
+-- and its place
+unfoldable pub place : List ℕ → ℕ
+place s = faultAt s (refusal s)
 
 -- the data field or the content, and where it begins; an empty part at the front where the packet is refused
 unfoldable pub content : List ℕ → List ℕ

@@ -1,10 +1,12 @@
 // The Encapsulation Packet: a header of 1, 2, 4 or 8 octets, then the content.
 ghost use mathlib.Core.Path.{_≡_};
 ghost use mathlib.Core.Bool.{cond};
+ghost use mathlib.Core.List.{[], _∷_};
 ghost use lib.Dec.{ltb};
 ghost use Rattle.octets.specs.Octets.{octet, be16};
 ghost use Rattle.packet.specs.Encapsulation.{protocol as protocolIn, headerFor, encapHeader, second as secondIn, sizeFor, encapSize, misnames};
-ghost use Rattle.reading.specs.Reading.{refusal, reading};
+ghost use Rattle.reading.specs.Places.{nameFrom, lengthFrom};
+ghost use Rattle.reading.specs.Reading.{reading};
 ghost use Rattle.reading.specs.Causes.{Version, EncapThere};
 ghost use Rattle.packet.specs.Told.{told};
 use octets::be16_at;
@@ -67,28 +69,69 @@ fn is_misnamed(header: u8, protocol: u8, extension: u8, ccsds: u16) -> bool
         | (ccsds != 0)
 }
 
-// The refusal of a packet whose header is there, or 0; its fields are given, so that they are read once.
-fn refusal_of(s: &[u8], header: u8, protocol: u8, second: u8, size: usize) -> u8
+// Where the fields that name no protocol are wrong first; third is octet 2, where the header has a CCSDS field.
+fn name_from(header: u8, protocol: u8, extension: u8, third: u8) -> u32
+    ensures { λ r. ⌜ r ≡ nameFrom header protocol extension third ⌝ }
+{
+    if (protocol == EXTENDED) & (header < 4) {
+        0
+    } else if (extension != 0) & (protocol != EXTENDED) {
+        1
+    } else if third == 0 {
+        3
+    } else {
+        2
+    }
+}
+
+// Where the length field begins.
+fn length_from(header: u8) -> u32
+    ensures { λ r. ⌜ r ≡ lengthFrom header ⌝ }
+{
+    (header / 2) as u32
+}
+
+// A refusal with its place.
+fn refused(number: u8, place: u32) -> Packet
+    ensures { λ r. ⌜ told r ≡ (number ∷ place ∷ []) ⌝ }
+{
+    Packet::Refused { place, number }
+}
+
+// What a packet tells whose header is there; its fields are given, so that they are read once. Each refusal builds the enum and works its place out
+// where it is found, so that what is not refused pays nothing for it.
+fn verdict(s: &[u8], header: u8, protocol: u8, second: u8, size: usize) -> Packet
     requires { ⌜ EncapThere (now s) × (header ≡ encapHeader (now s)) × (protocol ≡ protocolIn (now s)) ⌝ }
     requires { ⌜ (second ≡ secondIn (now s)) × (size ≡ encapSize (now s)) ⌝ }
-    ensures { λ r. ⌜ r ≡ refusal (now (s .entry)) ⌝ }
+    ensures { λ r. ⌜ told r ≡ reading (now (s .entry)) ⌝ }
 {
-    if is_misnamed(header, protocol, second % 16, ccsds_for(header, s)) {
-        return 7;
+    let ccsds = ccsds_for(header, s);
+    if is_misnamed(header, protocol, second % 16, ccsds) {
+        return refused(
+            7,
+            name_from(header, protocol, second % 16, (ccsds / 256) as u8),
+        );
     }
     if size < header as usize {
-        return 4;
+        return refused(4, length_from(header));
     }
     if LIMIT < size {
-        return 5;
+        return refused(5, length_from(header));
     }
-    if (size - header as usize == 0) & (protocol != 0) {
-        return 6;
+    let octets = size - header as usize;
+    if (octets == 0) & (protocol != 0) {
+        return refused(6, 0);
     }
     if s.len() < size {
-        return 1;
+        return refused(1, s.len() as u32);
     }
-    0
+    Packet::Encapsulation {
+        protocol,
+        user: second / 16 % 16,
+        extension: second % 16,
+        header,
+        octets: octets as u32,
+    }
 }
 
 // What the octets of a packet of version 111 tell.
@@ -99,20 +142,9 @@ pub(crate) fn read(s: &[u8]) -> Packet
     let first = octet_at(s, 0);
     let header = header_for(first % 4);
     if s.len() < header as usize {
-        return Packet::Refused(1);
+        return refused(1, s.len() as u32);
     }
-    let protocol = first / 4 % 8;
     let second = second_for(header, s);
     let size = size_for(header, s);
-    let number = refusal_of(s, header, protocol, second, size);
-    if number != 0 {
-        return Packet::Refused(number);
-    }
-    Packet::Encapsulation {
-        protocol,
-        user: second / 16 % 16,
-        extension: second % 16,
-        header,
-        octets: (size - header as usize) as u32,
-    }
+    verdict(s, header, first / 4 % 8, second, size)
 }

@@ -17,7 +17,10 @@ pub fn read_packet(s: &[u8]) -> Packet
     ensures { λ r. ⌜ told r ≡ reading (now (s .entry)) ⌝ }
 {
     if s.len() == 0 {
-        return Packet::Refused(1);
+        return Packet::Refused {
+            number: 1,
+            place: 0,
+        };
     }
     let version = octet_at(s, 0) / 32 % 8;
     if version == 0 {
@@ -26,7 +29,10 @@ pub fn read_packet(s: &[u8]) -> Packet
     if version == 7 {
         return encapsulation::read(s);
     }
-    Packet::Refused(2)
+    Packet::Refused {
+        number: 2,
+        place: 0,
+    }
 }
 
 // The data field or the content of the packet at the front of s, as a part of s: after its header, and an empty part at the front of s

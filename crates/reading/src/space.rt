@@ -11,24 +11,32 @@ use packet::IDLE;
 use packet::Packet;
 use packet::SPACE_HEADER;
 
-// What the octets of a packet of version 000 tell. It has few refusals, and each builds the enum where it is found, which takes fewer instructions
-// than a number that is settled first.
+// What the octets of a packet of version 000 tell.
 pub(crate) fn read(s: &[u8]) -> Packet
     requires { ⌜ Version 0 (now s) ⌝ }
     ensures { λ r. ⌜ told r ≡ reading (now (s .entry)) ⌝ }
 {
     if s.len() < SPACE_HEADER {
-        return Packet::Refused(1);
+        return Packet::Refused {
+            number: 1,
+            place: s.len() as u32,
+        };
     }
     let first = octet_at(s, 0);
     let apid = be16_at(s, 0) % APIDS;
     let secondary = first / 8 % 2;
     if (apid == IDLE) & (secondary == 1) {
-        return Packet::Refused(3);
+        return Packet::Refused {
+            number: 3,
+            place: 0,
+        };
     }
     let octets = be16_at(s, 4) as u32 + 1;
     if s.len() < SPACE_HEADER + octets as usize {
-        return Packet::Refused(1);
+        return Packet::Refused {
+            number: 1,
+            place: s.len() as u32,
+        };
     }
     Packet::Space {
         packet_type: first / 16 % 2,

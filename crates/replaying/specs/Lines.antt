@@ -10,7 +10,7 @@ use Rattle.text.specs.Text.{ascii, decimal, numbers}
 use Rattle.record.specs.Record.{recordIn, fields}
 use Rattle.octets.specs.Octets.{one}
 use Rattle.intake.specs.declared.Answer.{Answer}
-use Rattle.intake.specs.declared.Answer.the-variants.{Refused, Repeat, Stray, Held, Unit}
+use Rattle.intake.specs.declared.Answer.the-variants.{Refused, Unread, Repeat, Stray, Held, Unit}
 use Rattle.adler.specs.Adler.{adler}
 use Rattle.replaying.specs.declared.Outcome.{Outcome}
 use Rattle.replaying.specs.declared.Outcome.the-variants.{Opened, Taken, Closed, Stopped}
@@ -26,9 +26,11 @@ orRefused at call lane refusal told = cond (eqb refusal 0) told (line at call la
 abbrev pub openLine : ℕ → ℕ → ℕ → List ℕ
 openLine at lane refusal = orRefused at (ascii " open") lane refusal (line at (ascii " open") lane (ascii " ok") [])
 
--- held, stray and unit give missing and 0 or 1 for a given-up group; unit then its length and the Adler-32 of its octets
+-- `refused` gives the number, and the place with those that have one; held, stray and unit give missing and 0 or 1 for a given-up group; unit
+-- then its length and the Adler-32 of its octets
 unfoldable pub packetLine : ℕ → ℕ → Answer → List ℕ → List ℕ
 packetLine at lane (Refused k) out = line at (ascii " packet") lane (ascii " refused") (k ∷ [])
+packetLine at lane (Unread k place) out = line at (ascii " packet") lane (ascii " refused") (k ∷ place ∷ [])
 packetLine at lane Repeat out = line at (ascii " packet") lane (ascii " repeat") []
 packetLine at lane (Stray missing givenUp) out = line at (ascii " packet") lane (ascii " stray") (missing ∷ one givenUp ∷ [])
 packetLine at lane (Held missing givenUp) out = line at (ascii " packet") lane (ascii " held") (missing ∷ one givenUp ∷ [])

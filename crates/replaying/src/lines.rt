@@ -48,6 +48,15 @@ fn put_refused(text: &mut [u8], to: usize, at: usize, call: &[u8], lane: u8, ref
     put_line(text, to, at, call, lane, b" refused", &[refusal as u64])
 }
 
+// Puts the line of a packet that was refused by the reader.
+fn put_unread(text: &mut [u8], to: usize, at: usize, lane: u8, number: u8, place: u32) -> usize
+    requires { ⌜ to + lineRoom ≤ length (now text) ⌝ }
+    ensures { λ r. ⌜ Lined (now (text .entry)) to (line at (ascii " packet") lane (ascii " refused") (number ∷ place ∷ [])) (now (text .exit)) r ⌝ }
+{
+    let ns = [number as u64, place as u64];
+    put_line(text, to, at, b" packet", lane, b" refused", &ns)
+}
+
 // Puts the line of a packet that was taken and ended no unit.
 fn put_taken(
     text: &mut [u8],
@@ -103,6 +112,7 @@ fn put_packet(text: &mut [u8], to: usize, at: usize, lane: u8, answer: Answer, o
 {
     match answer {
         Answer::Refused(k) => put_refused(text, to, at, b" packet", lane, k),
+        Answer::Unread { number, place } => put_unread(text, to, at, lane, number, place),
         Answer::Repeat => put_line(text, to, at, b" packet", lane, b" repeat", &[]),
         Answer::Stray { missing, given_up } => {
             put_taken(text, to, at, lane, b" stray", missing, given_up)

@@ -1,6 +1,6 @@
 -- A packet that comes to a lane that has accepted some packets: what is planned from the lane alone is the grouping rule's word on those packets. The lane's
 -- `missing`, `breaks` and `goesOn` are the rule's, and one law says what a counted packet makes of the lane.
-use Prim.Native.Nat.{ℕ, _+_, _<_}
+use Prim.Native.Nat.{ℕ, _+_, _≤_, _<_}
 use mathlib.Core.Path.{_≡_, refl, sym, ap, _∙_}
 use mathlib.Core.Bool.{Bool, true, false, cond, not, _&&_, true≢false}
 use mathlib.Core.List.{List, [], _∷_, _++_}
@@ -13,13 +13,14 @@ use lib.ListN.{length, getD, set, length-append}
 use Rattle.octets.specs.Octets.{one}
 use Rattle.octets.proofs.Order.{either}
 use Rattle.packet.specs.Space.{counts, flags, count}
+use Rattle.reading.specs.Reading.{refusal, place}
 use Rattle.record.specs.Record.{mostPackets}
 use Rattle.marks.specs.Blocks.{blocksFor}
 use Rattle.lane.specs.declared.Settings.{Settings}
 use Rattle.lane.specs.declared.Lane.{Lane}
 use Rattle.grouping.specs.declared.Added.{Added}
 use Rattle.grouping.specs.declared.Step.{Step}
-use Rattle.grouping.specs.declared.Step.the-variants.{Refuse, Repeat, Stray, Hold, Unit}
+use Rattle.grouping.specs.declared.Step.the-variants.{Refuse, Unread, Repeat, Stray, Hold, Unit}
 use Rattle.grouping.specs.declared.Plan.{Plan}
 use Rattle.grouping.specs.declared.Plan.the-variants.{Sure}
 use Rattle.lane.specs.Lane.{holding, closed, creditOf}
@@ -28,7 +29,7 @@ use Rattle.grouping.specs.Grouping.{missingBefore, goesOn, addedFrom}
 use Rattle.grouping.specs.Grouping as lane
 use Rattle.grouping.specs.Plans.{holdPlan, unitPlan, groupingPlan, acceptedPlan, packetPlan}
 use Rattle.grouping.specs.Steps.{counted, laneAfter}
-use Rattle.grouping.proofs.Accepted.{accepted-data}
+use Rattle.grouping.proofs.Accepted.{accepted-data, fault-least}
 use Rattle.grouping.proofs.Planned.{of-either}
 use Rattle.state.specs.State.{within}
 use Rattle.intake.specs.Calls.{settle}
@@ -47,7 +48,8 @@ credited s ps = refl
 
 -- the step of a packet p that comes to it: it refuses; or it is a Repeat, by the rule; or the lane, the answer and the output are the rule's
 pub data Follows (s : Settings) (ps : List Taken) (p out : List ℕ) : Step → Type 0 where
-  refuses : (k : ℕ) → (k ≡ 0 → ⊥) → Follows s ps p out (Refuse k)
+  refuses : (k : ℕ) → 8 ≤ k → Follows s ps p out (Refuse k)
+  unread : (refusal p ≡ 0 → ⊥) → Follows s ps p out (Unread (refusal p) (place p))
   repeats-it : repeats ps (takenOf s p) ≡ true → Follows s ps p out Repeat
   accepts : (d : Step) → repeats ps (takenOf s p) ≡ false
       → slotAfter (slotWith s ps) p d ≡ slotWith s (takenOf s p ∷ ps)
@@ -149,13 +151,13 @@ module _ (s : Settings) (ps : List Taken) (small : lastCount ps < counts) (p out
       holds : none ≡ unit ps q → some (whole on) ≡ group (q ∷ ps) → Plans (holdPlan s (added ps q) on n)
       unfolding holdPlan settle laneAfter one
       holds e f =
-          of-either Plans (ltb (s .cap) (blocksFor n)) (λ t ls at. refuses 19 (λ z. omega arith))
+          of-either Plans (ltb (s .cap) (blocksFor n)) (λ t ls at. refuses 19 (omega arith))
           (λ t ls at. of-either Does (within (set ls at (holding (getD ls at closed) n)))
-          (λ r. word (Hold (added ps q) on n) none (some (whole on)) e f refl refl refl) (λ r. refuses 27 (λ z. omega arith)))
+          (λ r. word (Hold (added ps q) on n) none (some (whole on)) e f refl refl refl) (λ r. refuses 27 (omega arith)))
 
       ends : some (whole on) ≡ unit ps q → none ≡ group (q ∷ ps) → Plans (unitPlan (length out) (added ps q) on n)
       unfolding unitPlan settle laneAfter one
-      ends e f = of-either Plans (ltb (length out) n) (λ t ls at. refuses 20 (λ z. omega arith)) (λ t ls at. word (Unit (added ps q) on n) (some (whole on)) none e f refl refl refl)
+      ends e f = of-either Plans (ltb (length out) n) (λ t ls at. refuses 20 (omega arith)) (λ t ls at. word (Unit (added ps q) on n) (some (whole on)) none e f refl refl refl)
 
     -- by the flags, and whether the open group goes on
     abbrev goes : Bool
@@ -193,7 +195,9 @@ module _ (s : Settings) (ps : List Taken) (small : lastCount ps < counts) (p out
   pub planned : Plans (packetPlan l p (length out))
   unfolding packetPlan acceptedPlan settle
   planned =
-      of-either Plans (not (eqb (fault (termsOf l) p) 0)) (λ e ls at. refuses (fault (termsOf l) p) (eqb-false _ _ (not-true _ e)))
+      of-either Plans (not (eqb (refusal p) 0)) (λ r ls at. unread (eqb-false _ _ (not-true _ r)))
+      (λ r. of-either Plans (not (eqb (fault (termsOf l) p) 0))
+      (λ e ls at. refuses (fault (termsOf l) p) (omega (arith, fault-least (termsOf l) p (eqb-true _ _ (not-false _ r)) (eqb-false _ _ (not-true _ e)))))
       (λ e. of-either Plans (lane.repeats l (count p)) (λ f. repeated (sym (repeats-same s ps p) ∙ f))
-      (λ f. of-either Plans (leb mostPackets (length ps)) (λ g ls at. refuses 18 (λ z. omega arith))
-      (λ g. rw (← accepted-data (termsOf l) p (eqb-true _ _ (not-false _ e)) .1) (grouping (sym (repeats-same s ps p) ∙ f)))))
+      (λ f. of-either Plans (leb mostPackets (length ps)) (λ g ls at. refuses 18 (omega arith))
+      (λ g. rw (← accepted-data (termsOf l) p (eqb-true _ _ (not-false _ e)) .1) (grouping (sym (repeats-same s ps p) ∙ f))))))

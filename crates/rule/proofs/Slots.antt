@@ -5,7 +5,7 @@ use mathlib.Core.List.{List, [], _++_}
 use Rattle.octets.specs.Output.{put}
 use Rattle.lane.specs.declared.Lane.{Lane}
 use Rattle.grouping.specs.declared.Step.{Step}
-use Rattle.grouping.specs.declared.Step.the-variants.{Refuse, Repeat, Stray, Hold, Unit}
+use Rattle.grouping.specs.declared.Step.the-variants.{Refuse, Unread, Repeat, Stray, Hold, Unit}
 use Rattle.grouping.specs.Packets.{userData}
 use Rattle.grouping.specs.Steps.{laneAfter}
 
@@ -20,6 +20,7 @@ without l = record { lane = l; group = [] }
 -- ---- a packet's step, of the group and the user data
 abbrev pub groupAfter : List ℕ → List ℕ → Step → List ℕ
 groupAfter g u (Refuse n) = g
+groupAfter g u (Unread n place) = g
 groupAfter g u Repeat = g
 groupAfter g u (Stray a) = []
 groupAfter g u (Hold a on n) = cond on g [] ++ u
@@ -27,6 +28,7 @@ groupAfter g u (Unit a on n) = []
 
 abbrev pub outFrom : List ℕ → List ℕ → Step → List ℕ → List ℕ
 outFrom g u (Refuse n) out = out
+outFrom g u (Unread n place) out = out
 outFrom g u Repeat out = out
 outFrom g u (Stray a) out = out
 outFrom g u (Hold a on n) out = out

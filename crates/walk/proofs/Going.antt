@@ -6,9 +6,9 @@ use native.Mathlib.Nat.{sub-zero, zero-add}
 use native.Mathlib.Omega.{arith}
 use borrow.Author.Tests.{eq-eqb, ne-eqb}
 use lib.ListN.{length, drop, length-drop}
-use Rattle.reading.specs.Reading.{refusal}
+use Rattle.reading.specs.Reading.{refusal, place as placeIn}
 use Rattle.reading.proofs.Within.{within}
-use Rattle.walk.specs.Walk.{next, nextOrHere, placesFrom, endFrom, places, end, stop}
+use Rattle.walk.specs.Walk.{next, nextOrHere, placesFrom, endFrom, places, end, stop, stopPlace}
 use Rattle.walk.proofs.Looked.{past-end}
 
 -- a loop over s stands at index at, with n packets behind it
@@ -25,11 +25,12 @@ pub record Turn (s : List ℕ) (at n m : ℕ) : Type 0 where
   pub going : Going s m (n + 1)
   pub place : placesFrom (length s - n) s at ≡ at ∷ placesFrom (length s - (n + 1)) s m
 
--- the walk stops at index at after n packets, with k
-pub record Stopped (s : List ℕ) (at n k : ℕ) : Type 0 where
+-- the walk stops at index at after n packets, with k and its place q
+pub record Stopped (s : List ℕ) (at n k q : ℕ) : Type 0 where
   pub end-here : end s ≡ at
   pub all-counted : length (places s) ≡ n
   pub stop-here : stop s ≡ k
+  pub place-here : stopPlace s ≡ q
   pub no-more : placesFrom (length s - n) s at ≡ []
 
 module _ (s : List ℕ) where
@@ -84,20 +85,24 @@ module _ (s : List ℕ) where
       here : end s ≡ at
       here = g .same-end ∙ no-end _
 
-      stopped : {k : ℕ} → stop s ≡ k → Stopped s at n k
-      stopped e = record {
+      stopped : {k q : ℕ} → stop s ≡ k → stopPlace s ≡ q → Stopped s at n k q
+      stopped e f = record {
         end-here = here;
         all-counted = omega (arith, g .same-count, ap length (no-place (length s - n)));
         stop-here = e;
+        place-here = f;
         no-more = no-place _;
       }
 
-      pub at-refusal : at < length s → {k : ℕ} → k ≡ refusal (drop at s) → Stopped s at n k
-      unfolding stop
-      at-refusal h q = stopped (rw here (simp (ne-eqb at (length s) (λ e. omega arith)) (sym q)))
+      pub at-refusal : at < length s → {k q : ℕ} → k ≡ refusal (drop at s) → q ≡ placeIn (drop at s) → Stopped s at n k q
+      unfolding stop stopPlace
+      at-refusal h number place =
+          let more = ne-eqb at (length s) (λ e. omega arith) in
+          stopped (rw here (simp more (sym number))) (rw here (simp more (sym place)))
 
-    pub at-end : length s ≤ at → Stopped s at n 0
-    unfolding stop
+    pub at-end : length s ≤ at → Stopped s at n 0 0
+    unfolding stop stopPlace
     at-end h =
         let u : refusal (drop at s) ≡ 0 → ⊥ = λ e. omega (arith, past-end s at h) in
-        stopped u (rw (here u) (simp (eq-eqb at (length s) (omega (arith, g .inside)))))
+        let all = eq-eqb at (length s) (omega (arith, g .inside)) in
+        stopped u (rw (here u) (simp all)) (rw (here u) (simp all))

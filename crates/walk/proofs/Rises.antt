@@ -8,8 +8,8 @@ use native.Mathlib.Omega.{arith}
 use borrow.Author.Tests.{eqb-true, eqb-false}
 use lib.Dec.{eqb}
 use lib.ListN.{length, drop}
-use Rattle.reading.specs.Reading.{refusal}
-use Rattle.walk.specs.Walk.{readAt, next, placesFrom, endFrom, places, end, stop}
+use Rattle.reading.specs.Reading.{refusal, place as placeIn}
+use Rattle.walk.specs.Walk.{readAt, next, placesFrom, endFrom, places, end, stop, stopPlace}
 use Rattle.walk.proofs.Looked.{past-end}
 use Rattle.walk.proofs.Going.{moves}
 
@@ -46,14 +46,14 @@ module _ (s : List ℕ) where
   unfolding end
   nowhere-else = lies (length s) 0 (omega arith) .2 (omega arith)
 
-  -- the walk tells no refusal exactly at the end, and else the one that is met where it stops
-  abbrev Stop : ℕ → Type 0
-  Stop k = (k ≡ 0 → end s ≡ length s) × (0 < k → (end s < length s) × (k ≡ refusal (drop (end s) s)))
+  -- the walk tells no refusal exactly at the end, and else the one that is met where it stops, with its place
+  abbrev Stop : ℕ → ℕ → Type 0
+  Stop k q = (k ≡ 0 → end s ≡ length s) × (0 < k → (end s < length s) × (k ≡ refusal (drop (end s) s)) × (q ≡ placeIn (drop (end s) s)))
 
-  by-end : (b : Bool) → eqb (end s) (length s) ≡ b → Stop (cond b 0 (refusal (drop (end s) s)))
+  by-end : (b : Bool) → eqb (end s) (length s) ≡ b → Stop (cond b 0 (refusal (drop (end s) s))) (cond b 0 (placeIn (drop (end s) s)))
   by-end true e = (λ z. eqb-true _ _ e, λ h. absurd (omega arith))
-  by-end false e = (λ z. absurd (nowhere-else z), λ h. (omega (arith, rises .1, eqb-false (end s) (length s) e), refl))
+  by-end false e = (λ z. absurd (nowhere-else z), λ h. (omega (arith, rises .1, eqb-false (end s) (length s) e), refl, refl))
 
-  pub stops-right : Stop (stop s)
-  unfolding stop
+  pub stops-right : Stop (stop s) (stopPlace s)
+  unfolding stop stopPlace
   stops-right = by-end (eqb (end s) (length s)) refl

@@ -6,7 +6,7 @@ use mathlib.Core.Bool.{Bool, cond}
 use lib.ListN.{length, drop}
 use lib.Dec.{eqb}
 use Rattle.packet.specs.Told.{told}
-use Rattle.reading.specs.Reading.{refusal, reading, size}
+use Rattle.reading.specs.Reading.{refusal, place as placeIn, reading, size}
 use Rattle.walk.specs.declared.Walked.{Walked}
 use Rattle.walk.specs.declared.Found.{Found}
 
@@ -48,5 +48,9 @@ end s = endFrom (length s) s 0
 unfoldable pub stop : List ℕ → ℕ
 stop s = cond (eqb (end s) (length s)) 0 (refusal (drop (end s) s))
 
+-- its place, from the start of the packet that is refused, or 0
+unfoldable pub stopPlace : List ℕ → ℕ
+stopPlace s = cond (eqb (end s) (length s)) 0 (placeIn (drop (end s) s))
+
 unfoldable pub walked : List ℕ → Walked
-walked s = record { at = end s; packets = length (places s); refused = stop s }
+walked s = record { at = end s; packets = length (places s); refused = stop s; place = stopPlace s }

@@ -3,14 +3,17 @@ ghost use mathlib.Core.Path.{_≡_};
 ghost use Rattle.walk.specs.Walk.{Finds, walked};
 use packet::Packet;
 use packet::number_of;
+use packet::place_of;
 use packet::size_of;
 use reading::read_packet;
 
-// Where a walk stopped: the octets in whole packets, their count, and the refusal that stopped it, or 0 at the end.
+// Where a walk stopped: the octets in whole packets, their count, and the refusal that stopped it, with its place from the start of the packet that is
+// refused; or 0 and 0 at the end.
 pub struct Walked {
     pub at: usize,
     pub packets: usize,
     pub refused: u8,
+    pub place: u32,
 }
 
 // What lies at an index: the packet, the number of its refusal, or 0, and where the next packet begins.
@@ -26,7 +29,10 @@ pub fn look_at(s: &[u8], at: usize) -> Found
 {
     if s.len() < at {
         return Found {
-            packet: Packet::Refused(1),
+            packet: Packet::Refused {
+                number: 1,
+                place: 0,
+            },
             refused: 1,
             next: at,
         };
@@ -51,14 +57,17 @@ pub fn walk(s: &[u8]) -> Walked
                 at,
                 packets,
                 refused: 0,
+                place: 0,
             };
         }
         let found = look_at(s, at);
         if found.refused != 0 {
+            let p = found.packet;
             break Walked {
                 at,
                 packets,
                 refused: found.refused,
+                place: place_of(p),
             };
         }
         at = found.next;

@@ -172,7 +172,9 @@ struct expected expected_packet(const state *s, size_t lane, const uint8_t *pack
     struct branmuslin_packet p;
     struct expected e = {.after = *s};
     e.refusal = expected_reading(packet, length, &p);
-    if (e.refusal == 0)
+    if (e.refusal != 0)
+        e.place = expected_place(packet, length, e.refusal);
+    else
         e.refusal = expected_entry(l, &p, length);
     if (e.refusal != 0)
         return e;

@@ -12,6 +12,7 @@ struct expected {
     uint8_t refusal, kind;
     bool given_up;
     uint16_t missing;
+    size_t place;         /* of the octet at fault; 0 where reading did not refuse */
     size_t unit;          /* octets of the unit; 0 for every other kind */
     size_t group;         /* octets of the group that the packet adds to or ends */
     const uint8_t *data;  /* the user data */

@@ -63,6 +63,13 @@ void notice(unsigned number)
     counters[FUNCTIONS * NUMBERS + number % NOTICES] = 1;
 }
 
+/* The octets that are present where a packet is cut short are too many to note; every other place is less than 8. */
+void notice_place(uint8_t refusal, size_t place)
+{
+    if (refusal > 1 && refusal < 8)
+        notice(PLACES_NOTICED + refusal * 8u + (unsigned)place);
+}
+
 unsigned tell_met(void)
 {
     unsigned missed = 0;

@@ -37,8 +37,9 @@ void demand(bool holds, const char *what, const char *file, int line);
 void answered(enum function function, uint8_t expected, uint8_t refusal);
 
 /* Notes something else that is worth a fuzzer's while: the archive is not instrumented, so a fuzzer sees only what the harness notes. */
-enum notice { KINDS_NOTICED = 0, GIVEN_UP_NOTICED = 8, OPEN_NOTICED = 16, BLOCKS_NOTICED = 32, NOTICES = 48 };
+enum notice { KINDS_NOTICED = 0, GIVEN_UP_NOTICED = 8, OPEN_NOTICED = 16, BLOCKS_NOTICED = 32, PLACES_NOTICED = 48, NOTICES = 112 };
 void notice(unsigned number);
+void notice_place(uint8_t refusal, size_t place);
 
 /* Prints each function with the refusals that were met (0: done); the number of those that the header lists and that were not met. */
 unsigned tell_met(void);
@@ -78,8 +79,9 @@ size_t next_space(struct input *input, size_t needed);
 uint32_t number_at(const uint8_t *octets, unsigned width);
 void put_number(uint8_t *octets, unsigned width, uint32_t number);
 
-/* What the header says of reading a packet, and of a record. */
+/* What the header says of reading a packet, of the place of a refusal of that, and of a record. */
 uint8_t expected_reading(const uint8_t *octets, size_t length, struct branmuslin_packet *packet);
+size_t expected_place(const uint8_t *octets, size_t length, uint8_t refusal);
 bool is_possible(struct branmuslin_record record);
 void put_record(uint8_t *octets, struct branmuslin_record record);
 

@@ -146,11 +146,13 @@ static void give_packet(struct intake *intake, size_t lane, struct lent packet, 
     DEMAND(answer.given_up == e.given_up, "a group is given up where the header says so, and told");
     DEMAND(answer.missing == e.missing, "the packets missing are those between the counts");
     DEMAND(answer.octets == e.unit && answer.octets <= space, "the octets of the unit, which are at most those of the output");
+    DEMAND(answer.place == e.place, "the place is that which reading tells, and 0 where it does not refuse");
     unchanged(packet, "the packet stays as it was");
     unchanged(output, "the output has the unit at its front, and stays as it was behind it or if there is none");
     gives_back(intake, &e.after, &answer.state, e.refusal != 0);
     notice(KINDS_NOTICED + answer.kind);
     notice(GIVEN_UP_NOTICED + answer.given_up);
+    notice_place(answer.refusal, answer.place);
     if (answer.kind == BRANMUSLIN_HELD)
         notice(BLOCKS_NOTICED + intake->state.lanes[lane].octets / 2048u);
 }

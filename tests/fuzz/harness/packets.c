@@ -60,26 +60,62 @@ uint8_t expected_reading(const uint8_t *octets, size_t length, packet *p)
     return octets[0] >> 5 == 7 ? expected_encapsulation(octets, length, p) : 2;
 }
 
-void fuzz_read_packet(struct input *input)
+/* Where a header names nothing: at a protocol ID 6 without an extension, at an extension of another one, or at the first octet that isn't 0 of the CCSDS field. */
+static size_t expected_place_of_7(const uint8_t *o)
+{
+    const bool has_extension = o[0] % 4 >= 2;
+    if (!has_extension)
+        return 0;
+    if (o[1] % 16 != 0 && (o[0] >> 2 & 7) != 6)
+        return 1;
+    return o[2] != 0 ? 2 : 3;
+}
+
+size_t expected_place(const uint8_t *octets, size_t length, uint8_t refusal)
+{
+    static const uint8_t length_fields[] = {[1] = 1, [2] = 2, [3] = 4};
+    switch (refusal) {
+    case 1: return length;
+    case 4:
+    case 5: return length_fields[octets[0] % 4];
+    case 7: return expected_place_of_7(octets);
+    default: return 0;
+    }
+}
+
+static void read_one(struct input *input)
 {
     const size_t length = next_number(input, 3) % (LONGEST_INPUT + 1);
-    const struct lent octets = lend_input(INPUT, input, length), read = lend_noise(FIRST_NUMBERS, sizeof(packet), 1);
+    const struct lent octets = lend_input(INPUT, input, length), read = lend_noise(FIRST_NUMBERS, sizeof(packet), 1),
+                      told = lend_noise(SECOND_NUMBERS, sizeof(size_t), 14);
     packet expected;
     calling(READ_PACKET);
-    const uint8_t refusal = branmuslin_read_packet(octets.octets, length, (void *)read.octets);
+    const uint8_t refusal = branmuslin_read_packet(octets.octets, length, (void *)read.octets, (void *)told.octets);
     answered(READ_PACKET, expected_reading(octets.octets, length, &expected), refusal);
     unchanged(octets, "the octets stay as they were");
     holds(read, &expected, refusal == 0 ? sizeof expected : 0, "*packet has the fields, or stays as it was");
+    const size_t place = expected_place(octets.octets, length, refusal);
+    holds(told, &place, refusal == 0 ? 0 : sizeof place, "*place has the place of the field at fault, or stays as it was");
+    notice_place(refusal, place);
     DEMAND(refusal != 0 || (size_t)expected.offset + expected.length <= length, "a packet lies within the octets");
+}
+
+/* As often as the input goes, so that one that is stored can show every place of a refusal. */
+void fuzz_read_packet(struct input *input)
+{
+    do
+        read_one(input);
+    while (input->left > 0);
 }
 
 /* What was written reads back, whatever stands behind it; the library reads what it wrote in place. */
 static void reads_back(struct lent output, packet fields)
 {
     packet back;
+    size_t place = 0;
     memset(&back, 0xA5, sizeof back);
     calling(READ_PACKET);
-    DEMAND(branmuslin_read_packet(output.octets, output.length, &back) == 0, "what was written can be read");
+    DEMAND(branmuslin_read_packet(output.octets, output.length, &back, &place) == 0, "what was written can be read");
     DEMAND(memcmp(&back, &fields, sizeof back) == 0, "what was written reads back with the same fields");
 }
 

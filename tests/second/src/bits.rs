@@ -3,9 +3,17 @@
 //! Fields are taken and laid in the order in which they are sent, so no offset
 //! of any field is written down.
 
-/// The bits at hand ended before the number did.
+/// The bits at hand, which are those of so many octets, ended before what was
+/// to be taken did.
 #[derive(Debug, PartialEq, Eq)]
-pub struct Ended;
+pub struct Ended(pub usize);
+
+/// A field that was taken: its number, and the octet in which it begins.
+#[derive(Debug, Clone, Copy, PartialEq, Eq)]
+pub struct Field {
+    pub number: u32,
+    pub octet: usize,
+}
 
 pub struct BitReader<'a> {
     octets: &'a [u8],
@@ -21,12 +29,23 @@ impl<'a> BitReader<'a> {
     pub fn take(&mut self, width: u32) -> Result<u32, Ended> {
         let mut number = 0;
         for _ in 0..width {
-            let octet = *self.octets.get(self.taken / 8).ok_or(Ended)?;
+            let octet = *self.octets.get(self.taken / 8).ok_or(self.ended())?;
             let bit = (octet >> (7 - self.taken % 8)) & 1;
             number = (number << 1) | u32::from(bit);
             self.taken += 1;
         }
         Ok(number)
+    }
+
+    /// The same, with the place at which they begin.
+    pub fn field(&mut self, width: u32) -> Result<Field, Ended> {
+        let octet = self.taken / 8;
+        let number = self.take(width)?;
+        Ok(Field { number, octet })
+    }
+
+    fn ended(&self) -> Ended {
+        Ended(self.octets.len())
     }
 
     /// How many octets have been taken. Asked only between whole octets.
@@ -38,7 +57,7 @@ impl<'a> BitReader<'a> {
     /// The `octets` octets that follow, as a part of those lent.
     pub fn following(&self, octets: usize) -> Result<&'a [u8], Ended> {
         let (_, rest) = self.octets.split_at(self.octets_taken());
-        rest.get(..octets).ok_or(Ended)
+        rest.get(..octets).ok_or(self.ended())
     }
 }
 
@@ -87,8 +106,20 @@ mod tests {
         assert_eq!(bits.take(7), Ok(0x7F));
         assert_eq!(bits.octets_taken(), 2);
         assert_eq!(bits.following(1), Ok(&[0x07][..]));
-        assert_eq!(bits.following(2), Err(Ended));
-        assert_eq!(bits.take(9), Err(Ended));
+        assert_eq!(bits.following(2), Err(Ended(3)));
+        assert_eq!(bits.take(9), Err(Ended(3)));
+        assert_eq!(BitReader::new(&[]).take(1), Err(Ended(0)));
+    }
+
+    #[test]
+    fn fields_begin_where_the_last_one_ended() {
+        let mut bits = BitReader::new(&[0xAB, 0xCD, 0xEF]);
+        let mut field = |width| bits.field(width).map(|field| (field.number, field.octet));
+        assert_eq!(field(4), Ok((0xA, 0)));
+        assert_eq!(field(4), Ok((0xB, 0)));
+        assert_eq!(field(4), Ok((0xC, 1)));
+        assert_eq!(field(12), Ok((0xDEF, 1)));
+        assert_eq!(field(1), Err(Ended(3)));
     }
 
     #[test]

@@ -18,8 +18,9 @@ pub const FILE: &str = include_str!("../../../crates/cases/stdin");
 /// Of more octets nothing is run.
 pub const LONGEST: usize = 65_535;
 
-/// The paper's starred reading cases. They are proved elsewhere and so not
-/// printed, but they are compared and tested here all the same.
+/// The paper's starred reading cases. They are proved elsewhere, so of them only
+/// those that are refused are printed, for their places; but all are compared
+/// and tested here.
 pub const STARRED: &[&str] = &[
     "00 2A C0 05 00 01 AA BB",
     "00 2A C0 05 00 01 AA",
@@ -95,15 +96,15 @@ mod tests {
         let text = text(FILE.as_bytes()).expect("every line is a case");
         let starting = |start: &str| text.lines().filter(|line| line.starts_with(start)).count();
         assert_eq!(starting("read record"), 5 + 6);
-        assert_eq!(starting("read"), 15 + 5 + 6);
-        assert_eq!(starting("walk"), 3);
+        assert_eq!(starting("read"), 15 + 13 + 5 + 6);
+        assert_eq!(starting("walk"), 3 + 1);
         assert_eq!(starting("write encap "), 6 + 15);
         assert_eq!(starting("write space "), 16);
         assert_eq!(starting("write record "), 16);
         assert_eq!(starting("fresh "), 8 + 27);
         assert_eq!(starting("sound: sound"), 9);
         assert_eq!(starting("sound: unsound"), 18);
-        assert_eq!(packets().len(), 15 + 3);
+        assert_eq!(packets().len(), 15 + 13 + 3 + 1);
     }
 
     #[test]

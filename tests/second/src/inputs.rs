@@ -50,32 +50,40 @@ pub fn short() -> Inputs {
 #[cfg(test)]
 mod tests {
     use super::*;
+    use crate::faults;
     use crate::lister::LONGEST_INPUT;
     use crate::reader::{read, Packet};
     use crate::walk::walk;
     use std::collections::HashMap;
+
+    /// Where a packet stands in a run.
+    const FRONT: &str = ", at the front";
+    const LATER: &str = ", later";
 
     /// How often each thing that a comparison should meet is met.
     fn tally(inputs: &Inputs) -> HashMap<String, usize> {
         let mut tally = HashMap::new();
         for input in inputs.iter().filter(|input| input.len() <= LONGEST_INPUT) {
             for (offset, answer) in walk(input) {
-                let place = if offset == 0 { "at the front" } else { "later" };
+                let stands = if offset == 0 { FRONT } else { LATER };
                 let what = match answer {
                     Ok(Packet::Space(p)) => format!("space {} {}", p.packet_type, p.flags),
                     Ok(Packet::Encap(p)) => format!("encap {} {}", p.protocol, p.header_octets),
-                    Err(refusal) => format!("refused {}", refusal.0),
+                    Err(fault) => format!("refused {}", faults::kind(&fault)),
                 };
-                *tally.entry(format!("{what} {place}")).or_default() += 1;
+                *tally.entry(format!("{what}{stands}")).or_default() += 1;
             }
         }
         tally
     }
 
-    /// All refusals, both types with all flags, and all protocols in all the
-    /// header sizes that may carry them, each with both places.
+    /// All refusals at all their places, both types with all flags, and all
+    /// protocols in all the header sizes that may carry them, each at the front
+    /// and later.
     fn everything() -> Vec<String> {
-        let mut whats: Vec<String> = (1..=7).map(|number| format!("refused {number}")).collect();
+        let faults = faults::KINDS.iter();
+        let walked = faults.filter(|kind| **kind != faults::NO_OCTETS);
+        let mut whats: Vec<String> = walked.map(|kind| format!("refused {kind}")).collect();
         for packet_type in 0..2 {
             whats.extend((0..4).map(|flags| format!("space {packet_type} {flags}")));
         }
@@ -84,8 +92,7 @@ mod tests {
             let sizes: &[usize] = if protocol == 6 { &[4, 8] } else { &[2, 4, 8] };
             whats.extend(sizes.iter().map(|size| format!("encap {protocol} {size}")));
         }
-        let places = ["at the front", "later"];
-        let both = |what: &String| places.map(|place| format!("{what} {place}"));
+        let both = |what: &String| [FRONT, LATER].map(|stands| format!("{what}{stands}"));
         whats.iter().flat_map(both).collect()
     }
 
@@ -190,6 +197,15 @@ mod tests {
         let inputs = all();
         assert!(inputs.len() >= 4_000, "only {} inputs", inputs.len());
         assert!(inputs == all());
+    }
+
+    #[test]
+    fn show_a_place_that_two_octets_cannot_hold() {
+        let inputs = all();
+        let faults = inputs.iter().filter_map(|input| read(input).err());
+        assert!(faults.map(|fault| fault.place).max() > Some(65_535));
+        // Reading no octets is compared too, and refused.
+        assert!(inputs.contains(&Vec::new()));
     }
 
     #[test]

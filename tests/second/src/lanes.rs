@@ -9,7 +9,7 @@ mod packets;
 mod pool;
 
 pub use lane::{Accepted, Lane, Past, Settings, COUNTS, LONGEST_SECONDARY};
-pub use packets::{Answer, Step};
+pub use packets::{Answer, LaneRefusal, Step};
 pub use pool::{blocks_for, Group, BLOCKS, BLOCK_OCTETS, POOL_OCTETS};
 
 use crate::reader::{first_ground, Refusal};

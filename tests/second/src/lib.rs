@@ -12,6 +12,7 @@ pub mod compare;
 pub mod compare_replay;
 pub mod credit;
 pub mod ending;
+pub mod faults;
 pub mod forge;
 pub mod hex;
 pub mod inputs;

@@ -1,8 +1,8 @@
 //! The text of a run: a line for each call, from a fresh start.
 
 use crate::adler::adler32;
-use crate::lanes::{Answer, Lanes, Step, POOL_OCTETS};
-use crate::reader::Refusal;
+use crate::lanes::{Answer, LaneRefusal, Lanes, Step, POOL_OCTETS};
+use crate::reader::{Fault, Refusal};
 use crate::record::{Record, RECORD_OCTETS};
 use crate::run_file::Call;
 
@@ -20,7 +20,25 @@ pub enum Told {
     /// With the unit's length and its checksum.
     Unit(Step, usize, u32),
     Closed(Record),
+    /// A packet that can't be read: a refusal with its place.
+    Unread(Fault),
+    /// By its number, which is all that there is to tell.
     Refused(u8),
+}
+
+impl From<Refusal> for Told {
+    fn from(Refusal(number): Refusal) -> Self {
+        Told::Refused(number)
+    }
+}
+
+impl From<LaneRefusal> for Told {
+    fn from(refusal: LaneRefusal) -> Self {
+        match refusal {
+            LaneRefusal::Unread(fault) => Told::Unread(fault),
+            LaneRefusal::Other(refusal) => refusal.into(),
+        }
+    }
 }
 
 /// Makes calls one after another, with one pool and one output for all.
@@ -40,22 +58,27 @@ impl Player {
     }
 
     pub fn play(&mut self, call: &Call) -> Told {
-        let told = match call {
-            Call::Open { lane, settings } => self
-                .lanes
-                .open(*lane, *settings, &self.pool)
-                .map(|()| Told::Opened),
+        match call {
+            Call::Open { lane, settings } => {
+                let opened = self.lanes.open(*lane, *settings, &self.pool);
+                opened.map_or_else(Told::from, |()| Told::Opened)
+            }
             Call::Packet {
                 lane,
                 space,
                 octets,
-            } => self.packet(*lane, *space, octets),
-            Call::Close { lane, space } => self.close(*lane, *space),
-        };
-        told.unwrap_or_else(|Refusal(number)| Told::Refused(number))
+            } => {
+                let told = self.packet(*lane, *space, octets);
+                told.unwrap_or_else(Told::from)
+            }
+            Call::Close { lane, space } => {
+                let told = self.close(*lane, *space);
+                told.unwrap_or_else(Told::from)
+            }
+        }
     }
 
-    fn packet(&mut self, lane: u8, space: u32, octets: &[u8]) -> Result<Told, Refusal> {
+    fn packet(&mut self, lane: u8, space: u32, octets: &[u8]) -> Result<Told, LaneRefusal> {
         let output = &mut self.output[..MOST_SPACE.min(space as usize)];
         let answer = self.lanes.packet(lane, octets, &mut self.pool, output)?;
         Ok(match answer {
@@ -127,6 +150,7 @@ pub fn shown(told: &Told) -> String {
             let numbers = record.numbers().map(|number| number.to_string());
             format!("record {}", numbers.join(" "))
         }
+        Told::Unread(fault) => format!("refused {fault}"),
         Told::Refused(number) => format!("refused {number}"),
     }
 }

@@ -1,9 +1,10 @@
 //! Walks a run of packets that lie one after another.
 
-use crate::reader::{read, Packet, Refusal};
+use crate::reader::{read, Fault, Packet};
 
 /// Gives each packet with its offset, and at the end the refusal, if one
-/// stopped the walk. Reaching the end of the octets exactly is no refusal.
+/// stopped the walk; its place counts from the refused packet's own start.
+/// Reaching the end of the octets exactly is no refusal.
 pub struct Walk<'a> {
     octets: &'a [u8],
     offset: usize,
@@ -24,7 +25,7 @@ pub fn walk(octets: &[u8]) -> Walk<'_> {
 pub struct Outcome {
     pub octets: usize,
     pub packets: usize,
-    pub refusal: Option<Refusal>,
+    pub fault: Option<Fault>,
 }
 
 pub fn outcome(octets: &[u8]) -> Outcome {
@@ -35,14 +36,14 @@ pub fn outcome(octets: &[u8]) -> Outcome {
                 outcome.octets += packet.octets();
                 outcome.packets += 1;
             }
-            Err(refusal) => outcome.refusal = Some(refusal),
+            Err(fault) => outcome.fault = Some(fault),
         }
     }
     outcome
 }
 
 impl<'a> Iterator for Walk<'a> {
-    type Item = (usize, Result<Packet<'a>, Refusal>);
+    type Item = (usize, Result<Packet<'a>, Fault>);
 
     fn next(&mut self) -> Option<Self::Item> {
         if self.stopped || self.offset == self.octets.len() {

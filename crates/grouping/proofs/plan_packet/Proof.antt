@@ -8,13 +8,13 @@ returns : tie.Need-returns
 returns c = not-open _ _ _ _ (c .before .if1 .taken) (c .refuse .ensures)
 
 returns-2 : tie.Need-returns-2
-returns-2 c = not-space _ _ _ (c .before .before .before .before .if1 .left) _ (c .before .before .before .read-packet .ensures) (c .before .before .match .keys2) _ (c .before .other-refusal .ensures) _ (c .refuse2 .ensures)
+returns-2 c = not-space _ _ _ (c .before .before .before .if1 .left) _ (c .before .before .read-packet .ensures) (c .before .match .keys2) _ (c .other-plan .ensures)
 
 returns-3 : tie.Need-returns-3
 returns-3 c =
     let f = c .before .before in
     let p = f .before .before .before in
-    faulty _ _ _ (p .before .before .before .if1 .left) _ (p .before .before .read-packet .ensures) _ _ _ _ _ _ (p .p .given .1) _ (f .fault-of .ensures) (c .before .if2 .taken) _ (c .refuse3 .ensures)
+    faulty _ _ _ (p .before .before .before .if1 .left) _ (p .before .before .read-packet .ensures) _ _ _ _ _ _ (p .p .given .1) _ (f .fault-of .ensures) (c .before .if2 .taken) _ (c .refuse2 .ensures)
 
 sub-plan-accepted : tie.Need-sub-plan-accepted
 sub-plan-accepted c = long-enough _ _ _ _ _ _ _ (c .before .before .fault-of .ensures) (c .before .if2 .left)
@@ -33,7 +33,6 @@ plan-packet-spec =
     returns
     (λ c κs. search needs)
     (λ c. search needs)
-    (λ c κs. search needs)
     (λ c κs. search needs)
     returns-2
     (λ c κs. search needs)

@@ -1,15 +1,19 @@
 -- No octets and an unknown version are refused here; the rest is what the two kinds' readers tell.
 use native.Mathlib.Omega.{arith}
 use borrow.Author.Needs.{needs}
+use denote.Ref.{now}
+use Rattle.reading.specs.Places.{faultAt}
 use Rattle.reading.specs.Causes.{no-octets, no-version}
 use Rattle.reading.proofs.Exactly.{refused}
 use Rattle.reading.proofs.read_packet.Statement.{statement}
 use Rattle.reading.proofs.read_packet.Tie as tie
 
 returns : tie.Need-returns
-returns c = refused (no-octets (c .if1 .taken))
+unfolding faultAt
+returns c = let s = now (c .before .before .args .s) in rw (c .if1 .taken) at (refused {s = s} (no-octets (c .if1 .taken)))
 
 returns-4 : tie.Need-returns-4
+unfolding faultAt
 returns-4 c =
     let some = c .before .before .before .if1 .left in
     let first = c .before .before .octet-at .ensures in

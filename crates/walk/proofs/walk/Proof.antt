@@ -6,6 +6,7 @@ use borrow.Author.Needs.{needs}
 use denote.Ref.{now}
 use lib.ListN.{length}
 use Rattle.walk.specs.Walk.{walked}
+use Rattle.walk.proofs.Looked.{found-place}
 use Rattle.walk.proofs.Going.{Going, Turn, at-start, turned, at-end, at-refusal}
 use Rattle.walk.proofs.walk.Statement.{statement}
 use Rattle.walk.proofs.walk.Tie as tie
@@ -44,10 +45,13 @@ returns c =
 returns-2 : tie.Need-returns-2 Inv-loop μ-loop
 unfolding walked
 returns-2 c =
-    let l = c .before .before .before .before .loop in
-    let q = c .before .before .look-at .ensures .number in
-    let e = at-refusal (now (c .before .before .before .before .before .before .args .s)) (l .at) (l .packets) (l .inv) (λ z. c .if2 .taken (q ∙ z)) (c .before .before .before .if1 .left) q in
+    let s = now (c .before .before .before .before .before .before .before .args .s) in
+    let l = c .before .before .before .before .before .loop in
+    let found = c .before .before .before .look-at in
+    let q = found .ensures .number in
+    let at = c .place-of .ensures ∙ found-place s (l .at) (found .result) (found .ensures) in
+    let e = at-refusal s (l .at) (l .packets) (l .inv) (λ z. c .before .if2 .taken (q ∙ z)) (c .before .before .before .before .if1 .left) q at in
     cc
 
 pub walk-spec : {M : Type 1} → statement M
-walk-spec = tie.close (tie.spec Inv-loop μ-loop loop-holds (λ c κs. search needs) add-packets loop-less loop-again returns returns-2)
+walk-spec = tie.close (tie.spec Inv-loop μ-loop loop-holds (λ c κs. search needs) (λ c κs. search needs) add-packets loop-less loop-again returns returns-2)

@@ -3,8 +3,8 @@
 //!
 //! It is built with BRANMUSLIN_ARCHIVE set to the archive's whole path. It ends
 //! with status 0 and lines that count what was met, with 1 at the first
-//! disagreement, or if an answer that a function can give, a situation of the
-//! lanes or a ground against a state was hardly met.
+//! disagreement, or if an answer that a function can give, a place that it can
+//! tell, a situation of the lanes or a ground against a state was hardly met.
 
 use std::process::ExitCode;
 
@@ -18,6 +18,7 @@ mod archive {
             octets: *const u8,
             octets_length: usize,
             packet: *mut PacketNumbers,
+            place: *mut usize,
         ) -> u8;
 
         fn branmuslin_write_space(

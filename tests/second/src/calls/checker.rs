@@ -2,7 +2,9 @@
 
 use super::library::Library;
 use super::memory::{Memory, Piece};
+use crate::faults;
 use crate::hex;
+use crate::reader::Fault;
 use std::collections::BTreeMap;
 
 /// A comparison that meets something less often than this has lost its worth.
@@ -18,6 +20,9 @@ pub trait Call {
 
     /// The sizes of every header that it can read or write.
     const HEADERS: &'static [usize] = &[];
+
+    /// The kinds of every fault whose place it can tell.
+    const FAULTS: &'static [&'static str] = &[];
 
     /// The numbers that are given by value.
     fn numbers(&self) -> Vec<(&'static str, u32)> {
@@ -36,6 +41,11 @@ pub trait Call {
 
     /// The octets of the header that a good call has read or written.
     fn header(&self, _after: &Memory) -> Option<usize> {
+        None
+    }
+
+    /// The place that a refused call has told.
+    fn place(&self, _after: &Memory) -> Option<usize> {
         None
     }
 }
@@ -81,6 +91,10 @@ impl<'a> Checker<'a> {
         assert!(C::ANSWERS.contains(&returned), "{returned} isn't foreseen");
         self.meet(&answer::<C>(returned));
         if returned != 0 {
+            if let Some(place) = call.place(&memory) {
+                let number = returned;
+                self.meet(&fault::<C>(faults::kind(&Fault { number, place })));
+            }
             return Ok(None);
         }
         if let Some(octets) = call.header(&memory) {
@@ -116,6 +130,10 @@ impl<'a> Checker<'a> {
             let times = self.often(&header::<C>(*octets))?;
             parts.push(format!("header of {octets}: {times}"));
         }
+        for kind in C::FAULTS {
+            let times = self.often(&fault::<C>(kind))?;
+            parts.push(format!("refused {kind}: {times}"));
+        }
         let parts = parts.join(", ");
         Ok(format!("{}: {calls} calls agree ({parts})\n", C::FUNCTION))
     }
@@ -127,6 +145,10 @@ fn answer<C: Call>(number: u8) -> String {
 
 fn header<C: Call>(octets: usize) -> String {
     format!("{} of a header of {octets} octets", C::FUNCTION)
+}
+
+fn fault<C: Call>(kind: &str) -> String {
+    format!("{} that refuses {kind}", C::FUNCTION)
 }
 
 /// The call by all that it was given.

@@ -13,8 +13,8 @@ pub type PacketNumbers = [u32; 11];
 /// Station, apid, units, packets, missing and broken.
 pub type RecordNumbers = [u32; 6];
 
-/// Octets with their length, then the packet.
-pub type ReadPacket = unsafe extern "C" fn(*const u8, usize, *mut PacketNumbers) -> u8;
+/// Octets with their length, then the packet and the place.
+pub type ReadPacket = unsafe extern "C" fn(*const u8, usize, *mut PacketNumbers, *mut usize) -> u8;
 
 /// Type, secondary, apid, flags, count; data and output, each with its length;
 /// the octets written.

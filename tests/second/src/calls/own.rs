@@ -33,9 +33,18 @@ pub unsafe extern "C" fn read_packet(
     octets: *const u8,
     length: usize,
     packet: *mut PacketNumbers,
+    place: *mut usize,
 ) -> u8 {
-    let octets = slice::from_raw_parts(octets, length);
-    answered(read(octets), |read| *packet = told(&read))
+    match read(slice::from_raw_parts(octets, length)) {
+        Ok(read) => {
+            *packet = told(&read);
+            0
+        }
+        Err(fault) => {
+            *place = fault.place;
+            fault.number
+        }
+    }
 }
 
 pub unsafe extern "C" fn write_space(

@@ -5,6 +5,7 @@
 //! octet than 0 or 1 would be found out, and not believed.
 
 use crate::lanes::{Settings, BLOCKS, LANES};
+use crate::reader::{Fault, FAULTS};
 
 /// The mark of a block that no lane holds.
 pub const FREE: u16 = 512;
@@ -65,6 +66,8 @@ pub struct AnswerNumbers {
     pub given_up: u8,
     pub missing: u16,
     pub octets: usize,
+    /// 0 where there is none.
+    pub place: usize,
     pub state: StateNumbers,
 }
 
@@ -141,18 +144,34 @@ impl AnswerNumbers {
             given_up: 0,
             missing: 0,
             octets: 0,
+            place: 0,
             state: *state,
         }
     }
 
+    /// A packet that can't be read, which is told with its place.
+    pub fn unread(fault: &Fault, state: &StateNumbers) -> Self {
+        AnswerNumbers {
+            place: fault.place,
+            ..AnswerNumbers::refused(fault.number, state)
+        }
+    }
+
+    /// Why the packet can't be read, if that is why it is refused.
+    pub fn fault(&self) -> Option<Fault> {
+        let (number, place) = (self.refusal, self.place);
+        FAULTS.contains(&number).then_some(Fault { number, place })
+    }
+
     /// All numbers but the state.
-    pub fn numbers(&self) -> [usize; 5] {
+    pub fn numbers(&self) -> [usize; 6] {
         [
             self.refusal.into(),
             self.kind.into(),
             self.given_up.into(),
             self.missing.into(),
             self.octets,
+            self.place,
         ]
     }
 
@@ -160,9 +179,8 @@ impl AnswerNumbers {
     pub fn difference(&self, expected: &AnswerNumbers) -> Option<String> {
         let (came, should) = (self.numbers(), expected.numbers());
         if came != should {
-            return Some(format!(
-                "refusal, kind, given up, missing, octets: expected {should:?}, got {came:?}\n"
-            ));
+            let names = "refusal, kind, given up, missing, octets, place";
+            return Some(format!("{names}: expected {should:?}, got {came:?}\n"));
         }
         self.state.difference(&expected.state)
     }
@@ -201,7 +219,23 @@ mod tests {
         assert_eq!(size_of::<StateNumbers>(), 416);
         assert_eq!(offset_of!(ChangeNumbers, state), 4);
         assert_eq!(offset_of!(AnswerNumbers, octets), 8);
-        assert_eq!(offset_of!(AnswerNumbers, state), 16);
+        assert_eq!(offset_of!(AnswerNumbers, place), 16);
+        assert_eq!(offset_of!(AnswerNumbers, state), 24);
+        assert_eq!(size_of::<AnswerNumbers>(), 440);
+    }
+
+    #[test]
+    fn only_what_cannot_be_read_has_a_fault() {
+        let fault = |number, place| Fault { number, place };
+        let state = StateNumbers::FRESH;
+        for number in FAULTS {
+            let unread = AnswerNumbers::unread(&fault(number, 3), &state);
+            assert_eq!(unread.numbers(), [number.into(), 0, 0, 0, 0, 3]);
+            assert_eq!(unread.fault(), Some(fault(number, 3)));
+        }
+        for number in [0, 8, 11, 27] {
+            assert_eq!(AnswerNumbers::refused(number, &state).fault(), None);
+        }
     }
 
     #[test]

@@ -1,6 +1,7 @@
 //! Wrong versions of the functions, each of which the comparison must find.
 
 mod lanes;
+mod places;
 
 use super::checker::Checker;
 use super::library::{Library, PacketNumbers, RecordNumbers};
@@ -107,9 +108,10 @@ unsafe extern "C" fn clears_the_struct(
     octets: *const u8,
     length: usize,
     packet: *mut PacketNumbers,
+    place: *mut usize,
 ) -> u8 {
     *packet = [0; 11];
-    own::read_packet(octets, length, packet)
+    own::read_packet(octets, length, packet, place)
 }
 
 #[test]

@@ -150,8 +150,13 @@ fn truth(number: u32) -> Result<u8, String> {
     }
 }
 
+/// With the place, where the packet can't be read.
 fn refused(answer: &AnswerNumbers) -> Option<String> {
-    (answer.refusal > 0).then(|| format!(" refused {}", answer.refusal))
+    match (answer.refusal, answer.fault()) {
+        (0, _) => None,
+        (_, Some(fault)) => Some(format!(" refused {fault}")),
+        (number, None) => Some(format!(" refused {number}")),
+    }
 }
 
 /// What a packet that isn't refused tells, and of a unit what lies in the output.
@@ -171,6 +176,8 @@ fn shown(answer: &AnswerNumbers, output: &[u8]) -> String {
 #[cfg(test)]
 mod tests {
     use super::super::tests::answers;
+    use super::{refused, AnswerNumbers, StateNumbers};
+    use crate::reader::Fault;
 
     const HELD: [&str; 3] = [
         "lane 0 1 7 42 0 1 3 0 1 0 0 0 1 257",
@@ -267,6 +274,21 @@ mod tests {
             assert_eq!(answers, ["sound", "refused 24", "refused 24", "refused 24"]);
         }
         assert_eq!(asked(&["pool 0", "pool 16384"])[1], "ok");
+    }
+
+    /// The packets of the cases can all be read, so no line shows it.
+    #[test]
+    fn a_place_where_there_is_one() {
+        let state = &StateNumbers::FRESH;
+        let fault = Fault {
+            number: 7,
+            place: 1,
+        };
+        let unread = AnswerNumbers::unread(&fault, state);
+        assert_eq!(refused(&unread).as_deref(), Some(" refused 7 1"));
+        let other = AnswerNumbers::refused(15, state);
+        assert_eq!(refused(&other).as_deref(), Some(" refused 15"));
+        assert_eq!(refused(&AnswerNumbers::refused(0, state)), None);
     }
 
     #[test]

@@ -2,7 +2,7 @@
 
 use super::line::Line;
 use crate::hex::after_blanks;
-use crate::reader::{read, Packet, Refusal};
+use crate::reader::{read, Fault, Packet, Refusal};
 use crate::record::{read_file, read_record, FileRefusal, Record};
 use crate::walk::outcome;
 
@@ -30,7 +30,7 @@ pub fn record(record: &Record) -> String {
     format!(" record{}", numbers.concat())
 }
 
-fn packet(answer: &Result<Packet<'_>, Refusal>) -> String {
+fn packet(answer: &Result<Packet<'_>, Fault>) -> String {
     match answer {
         Ok(Packet::Space(p)) => {
             let fields = [p.packet_type, p.secondary, p.apid, p.flags, p.count];
@@ -40,7 +40,7 @@ fn packet(answer: &Result<Packet<'_>, Refusal>) -> String {
             let fields = [p.protocol, p.user, p.extension, p.header_octets as u32];
             format!(" encap{}", shown(&fields, p.content))
         }
-        Err(Refusal(number)) => format!(" refused {number} data"),
+        Err(fault) => format!(" refused {fault} data"),
     }
 }
 
@@ -53,8 +53,8 @@ fn shown(fields: &[u32], data: &[u8]) -> String {
 fn walk(octets: &[u8]) -> String {
     let end = outcome(octets);
     // No refusal has the number 0, so it is free to stand for none.
-    let refused = end.refusal.map_or(0, |refusal| refusal.0);
-    format!(" {} {} {refused}", end.octets, end.packets)
+    let fault = end.fault.map_or("0".to_string(), |fault| fault.to_string());
+    format!(" {} {} {fault}", end.octets, end.packets)
 }
 
 #[cfg(test)]
@@ -65,16 +65,18 @@ mod tests {
     fn packets() {
         let cases = [
             ("read fa 03 00 05 55", "encap 6 0 3 4 1 data 55"),
-            ("read f9 03 00", "refused 7 data"),
+            ("read f9 03 00", "refused 7 0 data"),
+            ("read ea 13 00 05 55", "refused 7 1 data"),
             ("read e1 02", "encap 0 0 0 2 0 data"),
-            ("read", "refused 1 data"),
+            ("read", "refused 1 0 data"),
             (
                 "read 00 2a c0 05 00 01 aa bb e0",
                 "space 0 0 42 3 5 2 data aa bb",
             ),
             ("walk 00 2a c0 05 00 01 aa bb e0", "9 2 0"),
-            ("walk fe 90 00 06 11 22 e0 00 2a", "7 2 1"),
-            ("walk 20 e0", "0 0 2"),
+            ("walk fe 90 00 06 11 22 e0 00 2a", "7 2 1 2"),
+            ("walk e0 eb 00 01 00 00 00 00 09 55", "1 1 7 2"),
+            ("walk 20 e0", "0 0 2 0"),
             ("walk", "0 0 0"),
         ];
         for (line, expected) in cases {

@@ -71,18 +71,19 @@ pub fn space_fields() -> Inputs {
     inputs
 }
 
-/// Every protocol in every header size, with each other field zero and not,
-/// and with lengths that are too small, fit, are cut short and are too big: so
-/// each two grounds for a refusal that can meet do meet.
+/// Every protocol in every header size, with each other field zero and not (of
+/// the CCSDS field, with each of its octets), and with lengths that are too
+/// small, fit, are cut short and are too big: so each two grounds for a refusal
+/// that can meet do meet.
 pub fn encap_fields() -> Inputs {
     let mut heads = Vec::new();
-    for bits in 0..256 {
+    for bits in 0..512 {
         heads.push(EncapHead {
             protocol: bits & 7,
             length_of_length: (bits as usize >> 3) & 3,
             user: if bits & 32 == 0 { 0 } else { 9 },
             extension: if bits & 64 == 0 { 0 } else { 3 },
-            ccsds: if bits & 128 == 0 { 0 } else { 0x0100 },
+            ccsds: [0, 0x0100, 0x0001, 0x8080][bits as usize >> 7],
         });
     }
     let mut inputs = Inputs::new();

@@ -29,7 +29,7 @@ pub fn short_packets() -> Vec<Vec<u8>> {
 }
 
 /// Packets wrong in one way or in several: at least one for each refusal that
-/// more octets can't heal.
+/// more octets can't heal, at each place that it can tell.
 pub fn wrong_packets() -> Vec<Vec<u8>> {
     let texts = [
         "20",
@@ -39,7 +39,9 @@ pub fn wrong_packets() -> Vec<Vec<u8>> {
         "E9 01",
         "E1 00",
         "EA 00 00 03",
+        "FE 90 00 00",
         "FB 01 00 00 00 00 00 00",
+        "E3 00 00 00 00 00 00 07",
         "EB 00 00 00 00 01 00 07",
         "FB 03 00 00 80 00 00 09",
         "E4",
@@ -48,6 +50,10 @@ pub fn wrong_packets() -> Vec<Vec<u8>> {
         "F8",
         "F9 01",
         "EA 13 00 05 55",
+        "EB 00 01 00 00 00 00 09 55",
+        "FB 03 80 01 00 00 00 08",
+        "EB 03 00 01 00 00 00 09 55",
+        "FB 03 00 01 00 00 00 09 55",
         "E3 00 00 01 00 01 00 07",
     ];
     texts.iter().map(|text| hex::octets(text)).collect()

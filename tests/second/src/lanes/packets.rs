@@ -3,7 +3,7 @@
 use super::lane::{Accepted, Lane, Settings};
 use super::pool::{blocks_for, BLOCKS, POOL_OCTETS};
 use super::Lanes;
-use crate::reader::{first_ground, read, Packet, Refusal, Space};
+use crate::reader::{first_ground, read, Fault, Packet, Refusal, Space};
 use crate::record::MOST_PACKETS;
 
 /// What an accepted packet tells beside its kind.
@@ -20,6 +20,26 @@ pub enum Answer {
     Held(Step),
     /// With the octets of the unit, which lies at the front of the output.
     Unit(Step, usize),
+}
+
+/// Why a lane doesn't take a packet.
+#[derive(Debug, Clone, Copy, PartialEq, Eq)]
+pub enum LaneRefusal {
+    /// It can't be read, and what is told of that is passed on, place and all.
+    Unread(Fault),
+    Other(Refusal),
+}
+
+impl From<Fault> for LaneRefusal {
+    fn from(fault: Fault) -> Self {
+        LaneRefusal::Unread(fault)
+    }
+}
+
+impl From<Refusal> for LaneRefusal {
+    fn from(refusal: Refusal) -> Self {
+        LaneRefusal::Other(refusal)
+    }
 }
 
 /// What a packet comes to, if nothing stands against it.
@@ -82,7 +102,7 @@ impl Lanes {
         octets: &[u8],
         pool: &mut [u8],
         output: &mut [u8],
-    ) -> Result<Answer, Refusal> {
+    ) -> Result<Answer, LaneRefusal> {
         first_ground(&[(24, pool.len() != POOL_OCTETS)])?;
         let open = self.lane(lane).ok_or(Refusal(11))?;
         let packet = packet_for(&open.settings, octets)?;
@@ -148,11 +168,11 @@ impl Lanes {
 }
 
 /// The packet in these octets, if it is one for a lane with these settings.
-fn packet_for<'a>(settings: &Settings, octets: &'a [u8]) -> Result<Space<'a>, Refusal> {
+fn packet_for<'a>(settings: &Settings, octets: &'a [u8]) -> Result<Space<'a>, LaneRefusal> {
     let packet = read(octets)?;
     first_ground(&[(12, packet.octets() < octets.len())])?;
     let Packet::Space(space) = packet else {
-        return Err(Refusal(13));
+        return Err(Refusal(13).into());
     };
     first_ground(&[
         (14, space.packet_type == 1),

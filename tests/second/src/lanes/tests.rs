@@ -1,5 +1,7 @@
 use super::*;
 use crate::forge::SpaceHead;
+use crate::hex;
+use crate::reader::Fault;
 use crate::record::MOST_PACKETS;
 
 /// Lanes with their pool, and an output of which a call uses what it is given.
@@ -27,6 +29,11 @@ fn gave_up(missing: u32) -> Step {
     Step { missing, gave_up }
 }
 
+/// The answer to a packet that is refused without a place.
+fn refused(number: u8) -> Result<Answer, LaneRefusal> {
+    Err(Refusal(number).into())
+}
+
 impl Desk {
     fn opened(mut self, lane: u8, numbers: [u8; 3]) -> Self {
         let settings = Settings::new(7, 42, numbers);
@@ -35,13 +42,19 @@ impl Desk {
     }
 
     /// Sends octets to lane 0, with so much space.
-    fn send(&mut self, octets: &[u8], space: usize) -> Result<Answer, Refusal> {
+    fn send(&mut self, octets: &[u8], space: usize) -> Result<Answer, LaneRefusal> {
         let output = &mut self.output[..space];
         self.lanes.packet(0, octets, &mut self.pool, output)
     }
 
     /// Sends a plain packet for APID 42 to a lane, with all the space.
-    fn plain(&mut self, lane: u8, flags: u32, count: u32, data: &[u8]) -> Result<Answer, Refusal> {
+    fn plain(
+        &mut self,
+        lane: u8,
+        flags: u32,
+        count: u32,
+        data: &[u8],
+    ) -> Result<Answer, LaneRefusal> {
         let octets = SpaceHead::new([0, 0, 42, flags, count]).with(data);
         self.lanes
             .packet(lane, &octets, &mut self.pool, &mut self.output)
@@ -122,12 +135,12 @@ fn lanes_of_the_papers_case() {
         desk.plain(1, 1, 0, &[9; 44 * 256]),
         Ok(Answer::Held(kept(0)))
     );
-    assert_eq!(desk.plain(1, 0, 1, &[9]), Err(Refusal(27)));
+    assert_eq!(desk.plain(1, 0, 1, &[9]), refused(27));
     assert_eq!(
         desk.plain(0, 1, 0, &[8; 20 * 256]),
         Ok(Answer::Held(kept(0)))
     );
-    assert_eq!(desk.plain(0, 0, 1, &[8]), Err(Refusal(27)));
+    assert_eq!(desk.plain(0, 0, 1, &[8]), refused(27));
     assert_eq!(desk.lanes.blocks_held().len(), 64);
 }
 
@@ -139,12 +152,12 @@ fn one_block_left() -> Desk {
 #[test]
 fn over_the_cap_and_over_the_pool() {
     let mut desk = one_block_left();
-    assert_eq!(desk.plain(0, 1, 0, &[1; 257]), Err(Refusal(27)));
+    assert_eq!(desk.plain(0, 1, 0, &[1; 257]), refused(27));
     // Three blocks are too many for the cap and for the pool: the cap is told.
-    assert_eq!(desk.plain(0, 1, 0, &[1; 513]), Err(Refusal(19)));
+    assert_eq!(desk.plain(0, 1, 0, &[1; 513]), refused(19));
     desk.closes(1, [0; 4]);
     // That the other lane is gone helps only against the second cause.
-    assert_eq!(desk.plain(0, 1, 0, &[1; 513]), Err(Refusal(19)));
+    assert_eq!(desk.plain(0, 1, 0, &[1; 513]), refused(19));
     assert_eq!(desk.plain(0, 1, 0, &[1; 257]), Ok(Answer::Held(kept(0))));
     desk.closes(0, [0, 1, 0, 1]);
 }
@@ -154,7 +167,7 @@ fn blocks_beyond_a_share_are_in_the_way_while_they_are_held() {
     let mut desk = desk().opened(0, [0, 0, 64]).opened(1, [0, 1, 64]);
     assert_eq!(desk.plain(1, 1, 0, &[1; 257]), Ok(Answer::Held(kept(0))));
     let long = [2; 63 * 256];
-    assert_eq!(desk.plain(0, 1, 9, &long), Err(Refusal(27)));
+    assert_eq!(desk.plain(0, 1, 9, &long), refused(27));
     assert_eq!(desk.plain(1, 2, 1, &[1]), Ok(Answer::Unit(kept(0), 258)));
     assert_eq!(desk.plain(0, 1, 9, &long), Ok(Answer::Held(kept(0))));
     // The group that is to be given up isn't in its own lane's way.
@@ -164,12 +177,12 @@ fn blocks_beyond_a_share_are_in_the_way_while_they_are_held() {
 #[test]
 fn alone_in_the_pool_only_the_cap_is_told() {
     let mut desk = desk().opened(0, [0, 0, 64]);
-    assert_eq!(desk.plain(0, 1, 0, &[1; 64 * 256 + 1]), Err(Refusal(19)));
+    assert_eq!(desk.plain(0, 1, 0, &[1; 64 * 256 + 1]), refused(19));
     assert_eq!(
         desk.plain(0, 1, 0, &[1; 64 * 256]),
         Ok(Answer::Held(kept(0)))
     );
-    assert_eq!(desk.plain(0, 0, 1, &[1]), Err(Refusal(19)));
+    assert_eq!(desk.plain(0, 0, 1, &[1]), refused(19));
 }
 
 #[test]
@@ -189,8 +202,8 @@ fn only_what_would_be_held_can_lack_room() {
 fn no_room_in_the_order_of_refusals() {
     let mut desk = one_block_left();
     let first = |apid, count, data: &[u8]| SpaceHead::new([0, 0, apid, 1, count]).with(data);
-    assert_eq!(desk.send(&first(41, 0, &[1; 257]), 0), Err(Refusal(15)));
-    assert_eq!(desk.send(&first(42, 0, &[1; 257]), 0), Err(Refusal(27)));
+    assert_eq!(desk.send(&first(41, 0, &[1; 257]), 0), refused(15));
+    assert_eq!(desk.send(&first(42, 0, &[1; 257]), 0), refused(27));
     assert_eq!(
         desk.send(&first(42, 0, &[1; 256]), 0),
         Ok(Answer::Held(kept(0)))
@@ -210,8 +223,8 @@ fn a_full_lane_is_full_before_it_lacks_room() {
     let other = Lane::new(Settings::new(7, 42, [0, 63, 63]));
     let lanes = Lanes::taken_over([(0, full), (1, other)].into_iter());
     let mut desk = Desk { lanes, ..desk() };
-    assert_eq!(desk.plain(0, 1, 10, &[1; 257]), Err(Refusal(18)));
-    assert_eq!(desk.plain(0, 1, 10, &[1; 513]), Err(Refusal(18)));
+    assert_eq!(desk.plain(0, 1, 10, &[1; 257]), refused(18));
+    assert_eq!(desk.plain(0, 1, 10, &[1; 513]), refused(18));
     assert_eq!(desk.plain(0, 1, 9, &[1; 257]), Ok(Answer::Repeat));
 }
 
@@ -221,8 +234,8 @@ fn without_room_the_old_group_stays() {
     for (mut desk, number) in [(alone, 19), (one_block_left(), 27)] {
         assert_eq!(desk.plain(0, 1, 0, &[1; 256]), Ok(Answer::Held(kept(0))));
         let before = desk.pool.clone();
-        assert_eq!(desk.plain(0, 1, 7, &[2; 257]), Err(Refusal(number)));
-        assert_eq!(desk.plain(0, 0, 1, &[2]), Err(Refusal(number)));
+        assert_eq!(desk.plain(0, 1, 7, &[2; 257]), refused(number));
+        assert_eq!(desk.plain(0, 0, 1, &[2]), refused(number));
         assert_eq!(desk.pool, before);
         assert_eq!(desk.plain(0, 2, 1, &[3]), Ok(Answer::Unit(kept(0), 257)));
         desk.closes(0, [1, 2, 0, 0]);
@@ -233,7 +246,7 @@ fn without_room_the_old_group_stays() {
 fn without_output_a_packet_is_not_received() {
     let mut desk = desk().opened(0, [0, 0, 1]);
     let octets = SpaceHead::new([0, 0, 42, 3, 5]).with(&[1, 2]);
-    assert_eq!(desk.send(&octets, 1), Err(Refusal(20)));
+    assert_eq!(desk.send(&octets, 1), refused(20));
     assert_eq!(desk.output[..2], [0xA5, 0xA5]);
     assert_eq!(desk.send(&octets, 2), Ok(Answer::Unit(kept(0), 2)));
     assert_eq!(desk.send(&octets, 0), Ok(Answer::Repeat));
@@ -263,7 +276,7 @@ fn an_empty_group_needs_no_block() {
         Ok(Answer::Held(kept(0)))
     );
     assert_eq!(desk.blocks(0), []);
-    assert_eq!(desk.send(&with(0, 1, &[9, 9, 1]), 0), Err(Refusal(19)));
+    assert_eq!(desk.send(&with(0, 1, &[9, 9, 1]), 0), refused(19));
     assert_eq!(
         desk.send(&with(0, 1, &[9, 9]), 0),
         Ok(Answer::Held(kept(0)))
@@ -272,7 +285,7 @@ fn an_empty_group_needs_no_block() {
         desk.send(&with(2, 2, &[9, 9]), 0),
         Ok(Answer::Unit(kept(0), 0))
     );
-    assert_eq!(desk.send(&with(3, 3, &[9, 9, 1]), 0), Err(Refusal(20)));
+    assert_eq!(desk.send(&with(3, 3, &[9, 9, 1]), 0), refused(20));
 }
 
 #[test]
@@ -286,18 +299,46 @@ fn packets_that_are_not_the_lanes() {
         (14, packet([1, 0, 41, 3, 0], &[1])),
         (15, packet([0, 0, 41, 3, 0], &[1])),
         (15, packet([0, 0, 2_047, 3, 0], &[1])),
-        (3, packet([0, 1, 2_047, 3, 0], &[1])),
         (16, packet([0, 0, 42, 3, 0], &[1])),
         (17, packet([0, 1, 42, 3, 0], &[1])),
-        (1, Vec::new()),
-        (2, vec![0x20]),
     ];
     for (number, octets) in cases {
-        assert_eq!(desk.send(&octets, 90_000), Err(Refusal(number)));
+        assert_eq!(desk.send(&octets, 90_000), refused(number));
     }
     let mut plain = self::desk().opened(0, [0, 0, 0]);
     let flagged = packet([0, 1, 42, 3, 0], &[1]);
-    assert_eq!(plain.send(&flagged, 9), Err(Refusal(16)));
+    assert_eq!(plain.send(&flagged, 9), refused(16));
+}
+
+#[test]
+fn packets_that_cannot_be_read() {
+    let mut desk = desk().opened(0, [0, 0, 1]);
+    let cases = [
+        (1, 0, ""),
+        (1, 2, "00 2A"),
+        (1, 7, "00 2A C0 05 00 01 AA"),
+        (2, 0, "20"),
+        (3, 0, "0F FF C0 00 00 00 00"),
+        (4, 1, "E9 01"),
+        (4, 2, "EA 00 00 03"),
+        (4, 4, "EB 00 00 00 00 00 00 07"),
+        (5, 4, "EB 00 00 00 00 01 00 07"),
+        (6, 0, "E9 02"),
+        (7, 0, "F9 03 00"),
+        (7, 1, "EA 13 00 05 55"),
+        (7, 2, "EB 00 01 00 00 00 00 09 55"),
+        (7, 3, "EB 00 00 01 00 00 00 09 55"),
+    ];
+    for (number, place, text) in cases {
+        let unread = Err(LaneRefusal::Unread(Fault { number, place }));
+        assert_eq!(desk.send(&hex::octets(text), 90_000), unread, "{text}");
+    }
+    // What stands before reading has no place.
+    let cut = hex::octets("00 2A");
+    let Desk { lanes, pool, .. } = &mut desk;
+    assert_eq!(lanes.packet(1, &cut, pool, &mut []), refused(11));
+    assert_eq!(lanes.packet(0, &cut, &mut pool[1..], &mut []), refused(24));
+    desk.closes(0, [0; 4]);
 }
 
 #[test]

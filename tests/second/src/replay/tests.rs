@@ -61,7 +61,31 @@ fn another_first_octet_stops_the_run() {
 #[test]
 fn no_octets_are_a_call() {
     let run = hex::octets("4F 07 00 07 00 2A 00 01 02 50 07 00 00 00 00 00 00 00 00");
-    let expected = ["0 open 7 ok", "9 packet 7 refused 1", "end 19 2 1073741825"];
+    let expected = [
+        "0 open 7 ok",
+        "9 packet 7 refused 1 0",
+        "end 19 2 1073741825",
+    ];
+    gives(&run, &expected);
+}
+
+#[test]
+fn only_what_cannot_be_read_has_a_place() {
+    let run = hex::octets(
+        "4F 00 00 07 00 2A 00 01 02  50 00 00 00 00 00 00 00 00 02 00 2A
+        50 00 00 00 00 00 00 00 00 05 EA 13 00 05 55
+        50 00 00 00 00 00 00 00 00 08 EB 00 00 00 00 00 00 07
+        50 00 00 00 00 00 00 00 00 01 E0  50 01 00 00 00 00 00 00 00 01 20",
+    );
+    let expected = [
+        "0 open 0 ok",
+        "9 packet 0 refused 1 2",
+        "21 packet 0 refused 7 1",
+        "36 packet 0 refused 4 4",
+        "54 packet 0 refused 13",
+        "65 packet 1 refused 11",
+        "end 76 6 1073741825",
+    ];
     gives(&run, &expected);
 }
 

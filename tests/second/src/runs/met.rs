@@ -1,6 +1,7 @@
 //! Counts what the runs met, and judges whether it was enough.
 
 use super::situations::{self, Past};
+use crate::faults;
 use crate::lanes::Lanes;
 use crate::replay::Told;
 use crate::run_file::Call;
@@ -17,10 +18,10 @@ const SELDOM: [(&str, usize); 4] = [
     ("file of more than 50,000 calls", 2),
 ];
 
-/// What no run can meet: 18 needs 262,144 packets and a run file has no room
-/// for 62,000; 24 and 25 need a state that is not sound or another pool, and
-/// calls from a fresh start lead to neither.
-const PACKET_REFUSALS: [u8; 17] = [1, 2, 3, 4, 5, 6, 7, 11, 12, 13, 14, 15, 16, 17, 19, 20, 27];
+/// Beside those of reading. What no run can meet: 18 needs 262,144 packets and a
+/// run file has no room for 62,000; 24 and 25 need a state that is not sound or
+/// another pool, and calls from a fresh start lead to neither.
+const PACKET_REFUSALS: [u8; 10] = [11, 12, 13, 14, 15, 16, 17, 19, 20, 27];
 
 #[derive(Default)]
 pub struct Met {
@@ -101,6 +102,7 @@ impl Met {
 fn expected() -> Vec<(String, usize)> {
     let mut things = vec!["open: ok".to_string()];
     things.extend([11, 21, 22, 23].map(|number| format!("open: refused {number}")));
+    things.extend(faults::KINDS.map(|kind| format!("packet: refused {kind}")));
     things.extend(PACKET_REFUSALS.map(|number| format!("packet: refused {number}")));
     things.push("packet: repeat".to_string());
     for kind in ["stray", "held", "unit"] {
@@ -132,6 +134,7 @@ fn answer(call: &Call, told: &Told) -> String {
         Told::Opened => ("ok", None),
         Told::Repeat => ("repeat", None),
         Told::Closed(_) => ("record", None),
+        Told::Unread(fault) => return format!("{kind}: refused {}", faults::kind(fault)),
         Told::Refused(number) => return format!("{kind}: refused {number}"),
         Told::Stray(step) => ("stray", Some(step)),
         Told::Held(step) => ("held", Some(step)),

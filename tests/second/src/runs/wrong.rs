@@ -8,9 +8,10 @@ use crate::random::Random;
 /// A good packet made wrong, or one of another kind. Where several things are
 /// wrong, the order of the refusals shows.
 pub fn octets(random: &mut Random, draft: &Draft, secondary: usize) -> Vec<u8> {
-    let mut octets = match random.below(8) {
-        0 => encap(random),
-        1 => unreadable(random),
+    let mut octets = match random.below(24) {
+        0..=2 => encap(random),
+        3..=6 => unreadable(random),
+        7 => cut_late(random, draft),
         _ => wrong_fields(random, *draft, secondary),
     };
     match random.below(6) {
@@ -28,6 +29,15 @@ pub fn octets(random: &mut Random, draft: &Draft, secondary: usize) -> Vec<u8> {
 fn unreadable(random: &mut Random) -> Vec<u8> {
     let wrong = packets::wrong_packets();
     wrong[random.between(0, wrong.len() - 1)].clone()
+}
+
+/// The front of a packet, of more octets than one octet can count: if the place
+/// were cut to that, it would show.
+fn cut_late(random: &mut Random, draft: &Draft) -> Vec<u8> {
+    let octets = random.between(256, 600);
+    let mut packet = draft.head.with(&random.octets(octets));
+    packet.truncate(octets);
+    packet
 }
 
 fn encap(random: &mut Random) -> Vec<u8> {

@@ -1,6 +1,6 @@
 -- In each arm the step is what the arm names (`Taken`).
 use denote.Ref.{now}
-use Rattle.intake.proofs.Taken.{refuses, repeats, strays, holds, ends}
+use Rattle.intake.proofs.Taken.{refuses, unread, repeats, strays, holds, ends}
 use borrow.Author.Needs.{needs}
 use Rattle.intake.proofs.taking.carry_out.Statement.{statement}
 use Rattle.intake.proofs.taking.carry_out.Tie as tie
@@ -22,21 +22,26 @@ returns c =
 returns-2 : tie.Need-returns-2
 returns-2 c =
     let s = c .before .before .before .before .before .args in
-    let w = repeats (now (s .marks)) _ _ _ (now (s .user)) (now (s .pool)) (now (s .out)) (c .enum-told2 .given .1) in (w .0, (w .1, (w .2, w .3)))
+    let w = unread (now (s .marks)) _ _ _ (now (s .user)) (now (s .pool)) (now (s .out)) _ _ (c .enum-told2 .given .1) in (w .0, (w .1, (w .2, w .3)))
 
 returns-3 : tie.Need-returns-3
 returns-3 c =
-    let s = c .before .before .before .before .before .before .before .before .args in
-    let w = strays (now (s .marks)) _ _ _ (now (s .user)) (now (s .pool)) (now (s .out)) _ _ _ (c .before .before .before .step .given .1) (c .stray .ensures .0) (c .stray .ensures .1) in (w .0, (w .1, (w .2, w .3)))
+    let s = c .before .before .before .before .before .args in
+    let w = repeats (now (s .marks)) _ _ _ (now (s .user)) (now (s .pool)) (now (s .out)) (c .enum-told3 .given .1) in (w .0, (w .1, (w .2, w .3)))
 
 returns-4 : tie.Need-returns-4
 returns-4 c =
+    let s = c .before .before .before .before .before .before .before .before .args in
+    let w = strays (now (s .marks)) _ _ _ (now (s .user)) (now (s .pool)) (now (s .out)) _ _ _ (c .before .before .before .step .given .1) (c .stray .ensures .0) (c .stray .ensures .1) in (w .0, (w .1, (w .2, w .3)))
+
+returns-5 : tie.Need-returns-5
+returns-5 c =
     let s = c .before .before .before .before .before .before .before .before .before .before .before .args in
     let e = c .before .before .hold .ensures in
     let w = holds (now (s .marks)) _ _ _ (now (s .user)) (now (s .pool)) (now (s .out)) _ _ _ _ _ (c .before .before .before .before .before .before .step2 .given .1) (e .0) (e .1 .0) _ (e .1 .1) in (w .0, (w .1, (w .2, w .3)))
 
-returns-5 : tie.Need-returns-5
-returns-5 c =
+returns-6 : tie.Need-returns-6
+returns-6 c =
     let s = c .before .before .before .before .before .before .before .before .before .before .before .before .args in
     let e = c .before .before .end-unit .ensures in
     let w = ends (now (s .marks)) _ _ _ (now (s .user)) (now (s .pool)) (now (s .out)) _ _ _ _ _ (c .before .before .before .before .before .before .before .step3 .given .1) (e .0) (e .1 .0) _ (e .1 .1) in (w .0, (w .1, (w .2, w .3)))
@@ -48,6 +53,7 @@ carry-out-spec =
     (λ c. search needs)
     (λ c. search needs)
     (λ c. search needs)
+    (λ c. search needs)
     stray-requires
     (λ c. search needs)
     hold-requires
@@ -56,8 +62,9 @@ carry-out-spec =
     returns
     returns-2
     returns-3
-    (λ c. search needs)
     returns-4
     (λ c. search needs)
+    returns-5
     (λ c. search needs)
-    returns-5)
+    (λ c. search needs)
+    returns-6)

@@ -24,4 +24,4 @@ returns-3 : tie.Need-returns-3
 returns-3 c = let start = c .before .before .before .before .before .before .before .before .before .before in rw (ap (lineOf (start .args .place)) (c .before .before .before .before .before .before .before .p3 .given .1)) (c .before .before .put-line3 .ensures)
 
 pub put-packet-spec : {M : Type 1} → statement M
-put-packet-spec = tie.close (tie.spec (λ c. search needs) (λ c. search needs) (λ c. search needs) (λ c. search needs) (λ c. search needs) (λ c. search needs) (λ c. search needs) put-line-requires (λ c. search needs) (λ c. search needs) (λ c. search needs) (λ c. search needs) (λ c. search needs) (λ c. search needs) (λ c. search needs) put-line-requires-2 (λ c. search needs) (λ c. search needs) (λ c. search needs) (λ c. search needs) put-line-requires-3 (λ c. search needs) returns (λ c. search needs) returns-2 (λ c. search needs) returns-3)
+put-packet-spec = tie.close (tie.spec (λ c. search needs) (λ c. search needs) (λ c. search needs) (λ c. search needs) (λ c. search needs) (λ c. search needs) (λ c. search needs) put-line-requires (λ c. search needs) (λ c. search needs) (λ c. search needs) (λ c. search needs) (λ c. search needs) (λ c. search needs) (λ c. search needs) put-line-requires-2 (λ c. search needs) (λ c. search needs) (λ c. search needs) (λ c. search needs) (λ c. search needs) put-line-requires-3 (λ c. search needs) returns (λ c. search needs) returns-2 (λ c. search needs) returns-3)

@@ -1,9 +1,9 @@
 //! Calls of `read_packet`.
 
-use super::answered;
 use crate::calls::checker::Call;
 use crate::calls::library::{Library, PacketNumbers};
 use crate::calls::memory::{Memory, Piece};
+use crate::faults;
 use crate::reader::{read, Packet};
 
 pub struct ReadPacket<'a> {
@@ -15,30 +15,44 @@ impl Call for ReadPacket<'_> {
     const ANSWERS: &'static [u8] = &[0, 1, 2, 3, 4, 5, 6, 7];
     // The Space Packet's header has six octets.
     const HEADERS: &'static [usize] = &[1, 2, 4, 6, 8];
+    const FAULTS: &'static [&'static str] = &faults::KINDS;
 
     fn pieces(&self) -> Vec<Piece<'_>> {
         vec![
             Piece::Input("octets", self.octets),
             Piece::Numbers("packet", 11),
+            Piece::Size("place"),
         ]
     }
 
     fn expect(&self, memory: &mut Memory) -> u8 {
-        answered(read(self.octets), |packet| {
-            memory.put_numbers("packet", &told(&packet))
-        })
+        match read(self.octets) {
+            Ok(packet) => {
+                memory.put_numbers("packet", &told(&packet));
+                0
+            }
+            Err(fault) => {
+                memory.put_size("place", fault.place);
+                fault.number
+            }
+        }
     }
 
     fn make(&self, library: &Library, memory: &mut Memory) -> u8 {
         let octets = memory.pointer("octets");
         let packet = memory.pointer("packet").cast();
+        let place = memory.pointer("place").cast();
         // SAFETY: the pieces are apart, as long as is told, and not null.
-        unsafe { (library.read_packet)(octets, self.octets.len(), packet) }
+        unsafe { (library.read_packet)(octets, self.octets.len(), packet, place) }
     }
 
     fn header(&self, after: &Memory) -> Option<usize> {
         let [.., offset, _] = after.numbers::<11>("packet");
         Some(offset as usize)
+    }
+
+    fn place(&self, after: &Memory) -> Option<usize> {
+        Some(after.size("place"))
     }
 }
 

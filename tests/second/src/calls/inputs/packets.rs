@@ -68,13 +68,13 @@ fn any_headers(random: &mut Random, inputs: &mut Inputs) {
         let head = SpaceHead::new([packet_type, secondary, apid, flags, random.below(16_384)]);
         inputs.push(head.claiming(random.between(1, 12), &data));
 
-        let ccsds = random.below(65_536);
+        let (ccsds, low) = (random.below(65_536), random.below(256));
         let head = EncapHead {
             protocol: random.below(8),
             length_of_length: random.between(0, 3),
             user: random.below(16),
             extension: random.pick(&[0, 0, 1, 15]),
-            ccsds: random.pick(&[0, 0, 0, ccsds]),
+            ccsds: random.pick(&[0, 0, 0, ccsds, low]),
         };
         let length = any_length(random, (head.octets() + octets) as u32);
         inputs.push(head.claiming(length, &data));

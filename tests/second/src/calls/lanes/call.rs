@@ -4,7 +4,7 @@ use super::{noted, sound};
 use crate::calls::library::Library;
 use crate::calls::memory::{Memory, Piece};
 use crate::calls::structs::{AnswerNumbers, StateNumbers, HELD, REPEAT, STRAY, UNIT};
-use crate::lanes::{Answer, Lanes, Settings, Step, POOL_OCTETS};
+use crate::lanes::{Answer, LaneRefusal, Lanes, Settings, Step, POOL_OCTETS};
 use crate::reader::Refusal;
 
 /// More than a block, so that one written behind the pool does no harm.
@@ -99,14 +99,20 @@ pub fn by_lanes(
     // No number over 7 is a lane, so none is cut to one.
     let lane = u8::try_from(lane).unwrap_or(u8::MAX);
     let answer = match deed {
-        Deed::Open(settings) => lanes.open(lane, *settings, pool).map(|()| None),
+        Deed::Open(settings) => changed(lanes.open(lane, *settings, pool)),
         Deed::Packet(octets) => lanes.packet(lane, octets, pool, output).map(Some),
-        Deed::Close => lanes.close(lane, pool, output).map(|()| None),
+        Deed::Close => changed(lanes.close(lane, pool, output)),
     };
     match answer {
         Ok(told) => numbers(told, noted::state(state, lanes)),
-        Err(Refusal(number)) => AnswerNumbers::refused(number, state),
+        Err(LaneRefusal::Unread(fault)) => AnswerNumbers::unread(&fault, state),
+        Err(LaneRefusal::Other(Refusal(number))) => AnswerNumbers::refused(number, state),
     }
+}
+
+/// An opening's or a closing's answer, which tells nothing of a packet.
+fn changed(answer: Result<(), Refusal>) -> Result<Option<Answer>, LaneRefusal> {
+    answer.map(|()| None).map_err(LaneRefusal::from)
 }
 
 /// The same by value, as the library has it: from the state's numbers alone.
@@ -140,6 +146,7 @@ fn numbers(told: Option<Answer>, state: StateNumbers) -> AnswerNumbers {
         given_up: step.gave_up.into(),
         missing: step.missing as u16,
         octets,
+        place: 0,
         state,
     }
 }
@@ -148,12 +155,13 @@ fn numbers(told: Option<Answer>, state: StateNumbers) -> AnswerNumbers {
 mod tests {
     use super::*;
     use crate::hex;
+    use crate::reader::Fault;
 
     fn opened() -> (StateNumbers, Vec<u8>) {
         let mut pool = vec![0xEE; POOL_OCTETS];
         let deed = Deed::Open(Settings::new(7, 42, [0, 0, 1]));
         let change = by_value(&StateNumbers::FRESH, (3, &deed), (&mut pool, &mut []));
-        assert_eq!(change.numbers(), [0; 5]);
+        assert_eq!(change.numbers(), [0; 6]);
         (change.state, pool)
     }
 
@@ -166,11 +174,27 @@ mod tests {
         let short = by_value(&state, call, (&mut pool, &mut output[..1]));
         assert_eq!(short, AnswerNumbers::refused(20, &state));
         let answer = by_value(&state, call, (&mut pool, &mut output));
-        assert_eq!(answer.numbers(), [0, UNIT.into(), 0, 0, 2]);
+        assert_eq!(answer.numbers(), [0, UNIT.into(), 0, 0, 2, 0]);
         assert_eq!(output, [0xAA, 0xBB, 0]);
         assert_eq!(answer.state.lanes[3].units, 1);
         let again = by_value(&answer.state, call, (&mut pool, &mut []));
-        assert_eq!(again.numbers(), [0, REPEAT.into(), 0, 0, 0]);
+        assert_eq!(again.numbers(), [0, REPEAT.into(), 0, 0, 0, 0]);
+    }
+
+    #[test]
+    fn only_a_packet_that_cannot_be_read_has_a_place() {
+        let (state, mut pool) = opened();
+        let mut answer = |lane, text: &str| {
+            let octets = hex::octets(text);
+            let call = (lane, &Deed::Packet(&octets));
+            by_value(&state, call, (&mut pool, &mut []))
+        };
+        for (text, number, place) in [("00 2A", 1, 2), ("EA 13 00 05 55", 7, 1), ("20", 2, 0)] {
+            let fault = Fault { number, place };
+            assert_eq!(answer(3, text), AnswerNumbers::unread(&fault, &state));
+        }
+        assert_eq!(answer(2, "00 2A"), AnswerNumbers::refused(11, &state));
+        assert_eq!(answer(3, "E0"), AnswerNumbers::refused(13, &state));
     }
 
     #[test]

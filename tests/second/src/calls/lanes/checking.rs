@@ -5,6 +5,7 @@ use super::sound::{self, GROUNDS, OVER_THE_POOL};
 use crate::calls::checker::Checker;
 use crate::calls::memory::Memory;
 use crate::calls::structs::{AnswerNumbers, StateNumbers};
+use crate::faults;
 use crate::hex;
 
 /// Every number that a function of the lanes can return. 25 isn't among those
@@ -91,6 +92,9 @@ fn meet_answer(checker: &mut Checker<'_>, function: &str, answer: &AnswerNumbers
     if function == "take_packet" && answer.refusal == 0 {
         checker.meet(&kind(KINDS[usize::from(answer.kind)]));
     }
+    if let Some(fault) = answer.fault() {
+        checker.meet(&unread(faults::kind(&fault)));
+    }
 }
 
 fn returned(function: &str, number: u8) -> String {
@@ -99,6 +103,10 @@ fn returned(function: &str, number: u8) -> String {
 
 fn kind(kind: &str) -> String {
     format!("take_packet that answers {kind}")
+}
+
+fn unread(kind: &str) -> String {
+    format!("take_packet that refuses {kind}")
 }
 
 /// The call by all that it was given.
@@ -135,6 +143,10 @@ pub fn summary(checker: &Checker<'_>) -> Result<String, String> {
         if function == "take_packet" {
             for name in &KINDS[1..] {
                 parts.push(format!("{name}: {}", checker.often(&kind(name))?));
+            }
+            for kind in faults::KINDS {
+                let times = checker.often(&unread(kind))?;
+                parts.push(format!("refused {kind}: {times}"));
             }
         }
         lines += &format!("{function}: {calls} calls agree ({})\n", parts.join(", "));

@@ -133,6 +133,9 @@ fn made_of(call: &Call) -> LaneCall<'_> {
 
 /// The answer as a replay has it.
 fn told(call: &Call, answer: &AnswerNumbers, after: &Memory) -> Told {
+    if let Some(fault) = answer.fault() {
+        return Told::Unread(fault);
+    }
     if answer.refusal > 0 {
         return Told::Refused(answer.refusal);
     }

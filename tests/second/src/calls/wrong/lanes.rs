@@ -174,8 +174,8 @@ made_of_own!(tests_the_sum_first, |take, state, lane, pool, output| {
 
 #[test]
 fn no_room_under_the_wrong_number() {
-    let over_cap = "expected [19, 0, 0, 0, 0], got [27, ";
-    let over_pool = "expected [27, 0, 0, 0, 0], got [19, ";
+    let over_cap = "expected [19, 0, 0, 0, 0, 0], got [27, ";
+    let over_pool = "expected [27, 0, 0, 0, 0, 0], got [19, ";
     let wrong = [
         (blames_the_cap_alone as _, over_pool),
         (blames_the_others_alone as _, over_cap),
@@ -184,6 +184,43 @@ fn no_room_under_the_wrong_number() {
     for (take_packet, word) in wrong {
         found(runs, taking(take_packet), &["take_packet\n", word]);
     }
+}
+
+spoiled!(drops_the_place, |_, _, mut answer, _, _| {
+    answer.place = 0;
+    answer
+});
+
+#[test]
+fn a_place_that_the_lane_drops() {
+    let words = ["take_packet\n", "place: expected [", ", 0, 0, 0, 0, 0]\n"];
+    found(runs, taking(drops_the_place), &words);
+}
+
+spoiled!(places_what_it_takes, |_, _, mut answer, _, _| {
+    if answer.refusal == 0 {
+        answer.place = answer.octets;
+    }
+    answer
+});
+
+spoiled!(places_every_refusal, |_, _, mut answer, _, _| {
+    if answer.refusal > 7 {
+        answer.place = 1;
+    }
+    answer
+});
+
+#[test]
+fn a_lane_that_tells_a_place_of_its_own() {
+    let words = ["take_packet\n", "place: expected [0, 4, ", ", got [0, 4, "];
+    found(runs, taking(places_what_it_takes), &words);
+    let words = [
+        "take_packet\n",
+        ", 0, 0, 0, 0, 0], got [",
+        ", 0, 0, 0, 0, 1]\n",
+    ];
+    found(runs, taking(places_every_refusal), &words);
 }
 
 /// The last block that was taken is the highest free one and not the lowest.
@@ -232,7 +269,7 @@ spoiled!(refuses_repeats, |before, lane, answer, _, _| {
 
 #[test]
 fn a_full_lane_without_repeats() {
-    let words = ["take_packet\n", "expected [0, 1, 0, 0, 0], got [18, 0, "];
+    let words = ["take_packet\n", "expected [0, 1, 0, 0, 0, 0], got [18, 0, "];
     found(full_lane, taking(refuses_repeats), &words);
 }
 
@@ -348,8 +385,11 @@ unsafe extern "C" fn writes_what_fits(
 #[test]
 fn wrong_closings() {
     let closings = [
-        (cuts_the_number as _, "expected [11, 0, 0, 0, 0], got "),
-        (takes_a_longer_pool as _, "expected [24, 0, 0, 0, 0], got "),
+        (cuts_the_number as _, "expected [11, 0, 0, 0, 0, 0], got "),
+        (
+            takes_a_longer_pool as _,
+            "expected [24, 0, 0, 0, 0, 0], got ",
+        ),
         (
             keeps_the_settings as _,
             ": expected LaneNumbers { opened: 0, ",
