@@ -67,6 +67,10 @@ use Rattle.listing.proofs.list_recording.Met as listRecording
 use Rattle.listing.proofs.octets_of.Met as octetsOf
 use Rattle.listing.proofs.written.Met as writtenPart
 use Rattle.adler.proofs.adler32.Met as adlerOf
+use Rattle.telling.proofs.is_ready.Met as isReady
+use Rattle.telling.proofs.put_line.Met as putLine
+use Rattle.telling.proofs.put_bad.Met as putBad
+use Rattle.telling.proofs.put_last.Met as putLast
 use Rattle.runfile.proofs.begin.Met as beginRun
 use Rattle.runfile.proofs.call_in.Met as callIn
 use Rattle.replaying.proofs.replay_some.Met as replaySome
@@ -147,6 +151,10 @@ honours public.put-decimal M = putDecimal.met
 honours public.put-numbers M = putNumbers.met
 honours public.octets-of M = octetsOf.met
 honours public.written M = writtenPart.met
+honours public.is-ready M = isReady.met
+honours public.put-line M = putLine.met
+honours public.put-bad M = putBad.met
+honours public.put-last M = putLast.met
 honours public.adler32 M = adlerOf.met
 honours public.begin M = beginRun.met
 honours public.call-in M = callIn.met

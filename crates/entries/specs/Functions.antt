@@ -63,6 +63,10 @@ use Rattle.text.proofs.put_numbers as putNumbers
 use Rattle.listing.proofs.octets_of as octetsOf
 use Rattle.listing.proofs.written as writtenPart
 use Rattle.adler.proofs.adler32 as adlerOf
+use Rattle.telling.proofs.is_ready as isReady
+use Rattle.telling.proofs.put_line as putLine
+use Rattle.telling.proofs.put_bad as putBad
+use Rattle.telling.proofs.put_last as putLast
 use Rattle.runfile.proofs.begin as beginRun
 use Rattle.runfile.proofs.call_in as callIn
 use Rattle.replaying.proofs.replay_some as replaySome
@@ -81,6 +85,7 @@ pub data Public : Type 0 where
   is-within is-unsound : Public
   put put-decimal put-numbers : Public
   octets-of written : Public
+  is-ready put-line put-bad put-last : Public
   adler32 begin call-in replay-some : Public
 
 -- `data-of` and `written` give back a part of a slice that they were lent: where it lies, and its octets
@@ -151,6 +156,10 @@ function put-numbers = valued putNumbers.ended (λ M. putNumbers.clauses) putNum
 function octets-of = valued octetsOf.ended (λ M. octetsOf.clauses) octetsOf.Symbol.routine
 function written =
     record { ended = writtenPart.ended; clauses = λ M. writtenPart.clauses; routine = writtenPart.Symbol.routine; alike = λ κs r q. (ptr r ≡ ptr q) × (now r ≡ now q) }
+function is-ready = valued isReady.ended (λ M. isReady.clauses) isReady.Symbol.routine
+function put-line = valued putLine.ended (λ M. putLine.clauses) putLine.Symbol.routine
+function put-bad = valued putBad.ended (λ M. putBad.clauses) putBad.Symbol.routine
+function put-last = valued putLast.ended (λ M. putLast.clauses) putLast.Symbol.routine
 function adler32 = valued adlerOf.ended (λ M. adlerOf.clauses) adlerOf.Symbol.routine
 function begin = valued beginRun.ended (λ M. beginRun.clauses) beginRun.Symbol.routine
 function call-in = valued callIn.ended (λ M. callIn.clauses) callIn.Symbol.routine

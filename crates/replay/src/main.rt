@@ -2,7 +2,7 @@
 // has no exit status in Rattle: where reading or writing fails it says so on standard error, which `./branmuslin` turns into a status.
 ghost use Prim.Native.Nat.{_≤_};
 ghost use lib.ListN.{length};
-ghost use Rattle.replaying.specs.Lines.{lineRoom};
+ghost use Rattle.telling.specs.Lines.{lineRoom};
 use libc::STDIN_FILENO;
 use libc::STDOUT_FILENO;
 

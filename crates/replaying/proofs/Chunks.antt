@@ -7,7 +7,7 @@ use native.Mathlib.Omega.{arith}
 use lib.ListN.{length}
 use Rattle.octets.specs.Output.{put}
 use Rattle.text.proofs.Underway.{Underway, begin, go-on, put-whole}
-use Rattle.replaying.specs.Lines.{Lined}
+use Rattle.telling.specs.Lines.{ready as roomFor, Lined}
 use Rattle.replaying.specs.Run.{Standing, next, nextText, ready, stepsLeft, chunkOver, afterOver, chunkText, chunkAfter, chunkOf}
 use Rattle.replaying.specs.declared.Chunk.{Chunk}
 use Rattle.replaying.proofs.Steps.{Going, is-ready, fewer}
@@ -15,12 +15,12 @@ use Rattle.replaying.proofs.Steps.{Going, is-ready, fewer}
 -- where the run is done nothing is left, however many steps there are
 module _ (s : List ℕ) (room to : ℕ) (w : Standing) (e : w .progress .done ≡ true) where
   pub idle-text : (most : ℕ) → chunkOver most s room to w ≡ []
-  unfolding chunkOver ready
+  unfolding chunkOver ready roomFor
   idle-text zero = refl
   idle-text (suc most) = simp e
 
   pub idle-after : (most : ℕ) → afterOver most s room to w ≡ w
-  unfolding afterOver ready
+  unfolding afterOver ready roomFor
   idle-after zero = refl
   idle-after (suc most) = simp e
 

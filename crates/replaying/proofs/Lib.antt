@@ -1,5 +1,4 @@
 mod Front
-mod Short
 pub mod Steps
 mod Chunks
 pub mod Whole

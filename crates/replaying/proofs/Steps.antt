@@ -1,19 +1,21 @@
 -- One step of a run: which of the three it is, and that it leads on. What carries `step` and both loops over it.
 use Prim.Native.Nat.{ℕ, suc, _+_, _-_, _≤_, _<_}
 use mathlib.Core.Path.{_≡_, refl, sym, ap, _∙_, subst}
-use mathlib.Core.Bool.{true, false, cond, not, _&&_}
+use mathlib.Core.Bool.{true, false, cond}
 use mathlib.Core.List.{List}
 use native.Mathlib.Omega.{arith}
-use borrow.Author.Tests.{eq-eqb, ne-eqb, lt-ltb, le-ltb, eqb-false, leb-true, not-true}
-use lib.Dec.{eqb, leb, ltb}
+use borrow.Author.Tests.{eq-eqb, ne-eqb, lt-ltb, le-ltb, eqb-false}
+use lib.Dec.{eqb, ltb}
 use lib.ListN.{length, take, drop, length-drop}
 use lib.Seq.{take-all}
-use Rattle.octets.proofs.Order.{either, neither, both}
+use Rattle.octets.proofs.Order.{either, neither}
 use Rattle.text.specs.Text.{ascii}
 use Rattle.runfile.specs.Calls.{callIn, callSize}
 use Rattle.runfile.specs.declared.Progress.{Progress}
 use Rattle.runfile.proofs.Fits.{call-fits}
-use Rattle.replaying.specs.Lines.{lineOf, lastLines, lineRoom, Lined}
+use Rattle.telling.proofs.Ready.{Going as Goes, goes}
+use Rattle.telling.specs.Lines.{lastLines, lineRoom, Lined}
+use Rattle.replaying.specs.Lines.{lineOf}
 use Rattle.replaying.specs.Run.{Standing, standing, finished, longest, ahead, call, stops, next, nextText, ready, stepsLeft}
 use Rattle.replaying.specs.declared.Ran.{Ran}
 use Rattle.replaying.proofs.Front.{Done, size-told, stopped-leaves}
@@ -72,18 +74,12 @@ pub stands : (x : Standing) {p : Progress} {pool out : List ℕ} → p ≡ x .pr
 stands x e f g = rw (e, f, g)
 
 -- ---- what a step asks for
-pub record Going (n : ℕ) (p : Progress) : Type 0 where
-  pub undone : p .done ≡ false
-  pub counted : p .calls ≤ p .at
-  pub inside : p .at ≤ n
+abbrev pub Going : ℕ → Progress → Type 0
+Going n p = Goes (p .done) (p .calls) (p .at) n
 
 pub is-ready : (n room : ℕ) (p : Progress) (to : ℕ) → ready n room p to ≡ true → Going n p × (to + lineRoom ≤ room)
 unfolding ready
-is-ready n room p to e =
-    let a = both (not (p .done) && leb (p .calls) (p .at) && leb (p .at) n) (leb (to + lineRoom) room) e in
-    let b = both (not (p .done) && leb (p .calls) (p .at)) (leb (p .at) n) (a .0) in
-    let c = both (not (p .done)) (leb (p .calls) (p .at)) (b .0) in
-    (record { undone = not-true (p .done) (c .0); counted = leb-true _ _ (c .1); inside = leb-true _ _ (b .1) }, leb-true _ _ (a .1))
+is-ready n room p to = goes (p .done) (p .calls) (p .at) n to room
 
 -- ---- it leads on: a run has less and less before it
 abbrev pub before : ℕ → Progress → ℕ

@@ -5,12 +5,12 @@ use mathlib.Core.Path.{_≡_, refl, sym, ap, _∙_}
 use mathlib.Core.Bool.{true, false}
 use mathlib.Core.List.{List, [], _++_, append-assoc}
 use native.Mathlib.Omega.{arith}
-use borrow.Author.Tests.{le-leb}
 use lib.ListN.{length}
 use Rattle.octets.proofs.Order.{either}
 use Rattle.text.specs.Text.{ascii}
 use Rattle.runfile.specs.Start.{start}
-use Rattle.replaying.specs.Lines.{lineRoom}
+use Rattle.telling.specs.Lines.{lineRoom}
+use Rattle.telling.proofs.Ready.{is-ready as can-step}
 use Rattle.replaying.specs.Run.{Standing, standing, zeros, longest, next, nextText, ready, stepsLeft, textOver, textFrom, runText, chunkOver, afterOver, chunkText, chunkAfter}
 use Rattle.replaying.proofs.Steps.{Going, is-ready, before, falls, stays, fewer, too-long}
 use Rattle.replaying.proofs.Chunks.{step-after}
@@ -68,9 +68,8 @@ module _ (s : List ℕ) where
     pub leads : (w : Standing) → Possible s w → w .progress .done ≡ false → lineRoom ≤ room → before (length s) (chunkAfter s room w .progress) < before (length s) (w .progress)
     unfolding chunkAfter ready
     leads w p u h =
-        let e : ready (length s) room (w .progress) 0 ≡ true =
-        simp (u, le-leb (w .progress .calls) (w .progress .at) (p .0), le-leb (w .progress .at) (length s) (p .1), le-leb lineRoom room h) in
-        let g = is-ready (length s) room (w .progress) 0 e .0 in
+        let g : Going (length s) (w .progress) = record { undone = u; counted = p .0; inside = p .1 } in
+        let e : ready (length s) room (w .progress) 0 ≡ true = can-step _ _ _ _ 0 room g (omega arith) in
         rw (step-after s room 0 w e)
         (omega (arith, falls s w g, after-leads (stepsLeft s (next s w)) (0 + length (nextText s w)) (next s w) (stays s w g) .1))
 

@@ -1,12 +1,11 @@
 -- The lines of a run's text. Each begins with the call's offset, what is called and the lane.
-use Prim.Native.Nat.{ℕ, _+_, _≤_}
+use Prim.Native.Nat.{ℕ}
 use mathlib.Core.Bool.{cond}
-use mathlib.Core.List.{List, [], _∷_, _++_}
-use mathlib.Core.Path.{_≡_}
+use mathlib.Core.List.{List, [], _∷_}
 use lib.Dec.{eqb}
-use lib.ListN.{length, take}
-use Rattle.octets.specs.Output.{put}
-use Rattle.text.specs.Text.{ascii, decimal, numbers}
+use lib.ListN.{take}
+use Rattle.text.specs.Text.{ascii}
+use Rattle.telling.specs.Lines.{line, badLine}
 use Rattle.record.specs.Record.{recordIn, fields}
 use Rattle.octets.specs.Octets.{one}
 use Rattle.intake.specs.declared.Answer.{Answer}
@@ -14,9 +13,6 @@ use Rattle.intake.specs.declared.Answer.the-variants.{Refused, Unread, Repeat, 
 use Rattle.adler.specs.Adler.{adler}
 use Rattle.replaying.specs.declared.Outcome.{Outcome}
 use Rattle.replaying.specs.declared.Outcome.the-variants.{Opened, Taken, Closed, Stopped}
-
-unfoldable pub line : ℕ → List ℕ → ℕ → List ℕ → List ℕ → List ℕ
-line at call lane word ns = decimal at ++ call ++ numbers (lane ∷ []) ++ word ++ numbers ns ++ ascii "\n"
 
 -- `refused` gives the number of the refusal, where there is one
 abbrev pub orRefused : ℕ → List ℕ → ℕ → ℕ → List ℕ → List ℕ
@@ -44,29 +40,9 @@ recordLine at lane out = line at (ascii " close") lane (ascii " record") (fields
 abbrev pub closeLine : ℕ → ℕ → ℕ → List ℕ → List ℕ
 closeLine at lane refusal out = orRefused at (ascii " close") lane refusal (recordLine at lane out)
 
--- `bad` where there is no whole call
-unfoldable pub badLine : ℕ → List ℕ
-badLine at = decimal at ++ ascii " bad\n"
-
 -- the line of what is told of the call at index at, with the output after it. A run ends before it would tell `Stopped`
 unfoldable pub lineOf : ℕ → Outcome → List ℕ → List ℕ
 lineOf at (Opened lane refusal) out = openLine at lane refusal
 lineOf at (Taken lane answer) out = packetLine at lane answer out
 lineOf at (Closed lane refusal) out = closeLine at lane refusal out
 lineOf at Stopped out = badLine at
-
--- `end` gives the octets of whole calls, their number, and the Adler-32 of the pool
-unfoldable pub endLine : ℕ → ℕ → List ℕ → List ℕ
-endLine at calls pool = ascii "end" ++ numbers (at ∷ calls ∷ adler pool ∷ []) ++ ascii "\n"
-
--- the end of a run of n octets: `bad` if it stopped before its end, and `end`
-unfoldable pub lastLines : ℕ → ℕ → ℕ → List ℕ → List ℕ
-lastLines n at calls pool = cond (eqb at n) [] (badLine at) ++ endLine at calls pool
-
--- the text of any step has at most so many octets
-abbrev pub lineRoom : ℕ
-lineRoom = 192
-
--- text was put into d from index at on, whole, which gave out, and `to` is the place after it. Only functions within the crate promise it
-abbrev pub Lined : List ℕ → ℕ → List ℕ → List ℕ → ℕ → Type 0
-Lined d at text out to = (to ≡ at + length text) × (out ≡ put d at text) × (to ≤ length d)

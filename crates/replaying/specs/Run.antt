@@ -1,8 +1,8 @@
 -- A run: calls one after another, a line for each, and the end. It can be gone on with in chunks.
 use Prim.Native.Nat.{ℕ, zero, suc, _+_, _-_}
-use mathlib.Core.Bool.{Bool, true, false, cond, not, _&&_, _||_}
+use mathlib.Core.Bool.{Bool, true, false, cond, _||_}
 use mathlib.Core.List.{List, [], _++_}
-use lib.Dec.{eqb, ltb, leb}
+use lib.Dec.{eqb, ltb}
 use lib.ListN.{length, drop, replicate}
 use Rattle.pool.specs.Octets.{poolOctets}
 use Rattle.text.specs.Text.{ascii}
@@ -11,7 +11,8 @@ use Rattle.runfile.specs.Start.{start}
 use Rattle.runfile.specs.declared.Call.{Call}
 use Rattle.runfile.specs.declared.Progress.{Progress}
 use Rattle.replaying.specs.Running.{ran, callPool, callOut}
-use Rattle.replaying.specs.Lines.{lineOf, lastLines, lineRoom}
+use Rattle.telling.specs.Lines.{lastLines, ready as roomFor}
+use Rattle.replaying.specs.Lines.{lineOf}
 use Rattle.replaying.specs.declared.Ran.{Ran}
 use Rattle.replaying.specs.declared.Chunk.{Chunk}
 
@@ -86,10 +87,9 @@ zeros n = replicate n 0
 unfoldable pub runText : List ℕ → List ℕ
 runText s = textFrom s (standing start (zeros poolOctets) (zeros 131072))
 
--- ---- a chunk of it: steps are taken while there is room for any of them in so many octets, from index `to` on. No run has more calls than
--- octets of calls, or more of these than octets: where a progress says otherwise, nothing is run
+-- ---- a chunk of it: steps are taken while there is room for any of them in so many octets, from index `to` on
 unfoldable pub ready : ℕ → ℕ → Progress → ℕ → Bool
-ready n room p to = not (p .done) && leb (p .calls) (p .at) && leb (p .at) n && leb (to + lineRoom) room
+ready n room p to = roomFor (p .done) (p .calls) (p .at) n to room
 
 unfoldable pub chunkOver : ℕ → List ℕ → ℕ → ℕ → Standing → List ℕ
 chunkOver zero s room to w = []

@@ -8,14 +8,14 @@ ghost use mathlib.Core.Bool.{true};
 ghost use Prim.Native.Nat.{_+_, _≤_};
 ghost use lib.ListN.{length};
 ghost use Rattle.octets.specs.Output.{put as puts};
-ghost use Rattle.replaying.specs.Lines.{Lined};
+ghost use Rattle.telling.specs.Lines.{Lined};
 ghost use Rattle.replaying.specs.Run.{standing, finished, ready, next, nextText, chunkText, chunkAfter, chunkOf};
 use calls::run_call;
 use intake::Answer;
-use lines::put_last;
 use lines::put_told;
 use runfile::Progress;
 use state::State;
+use telling::put_last;
 use text::put;
 
 // What is told of a call: the refusal or 0, or the answer to a packet. `Stopped` where there is no whole call.
@@ -42,19 +42,12 @@ pub struct Chunk {
 // The longest run file.
 const LONGEST: usize = 1048576;
 
-// Room for the text of any step (proofs/Short.antt).
-const LINE_ROOM: usize = 192;
-
 // Whether a step can be taken in a run of n octets, with so much room for the text.
 fn is_ready(n: usize, room: usize, chunk: Chunk) -> bool
     ensures { λ r. ⌜ r ≡ ready n room (chunk .progress) (chunk .octets) ⌝ }
 {
     let p = chunk.progress;
-    let to = chunk.octets;
-    if room < LINE_ROOM {
-        return false;
-    }
-    !p.done & (p.calls <= p.at) & (p.at <= n) & (to <= room - LINE_ROOM)
+    telling::is_ready(p.done, p.calls, p.at, n, chunk.octets, room)
 }
 
 // A chunk that ends with the run.

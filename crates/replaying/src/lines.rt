@@ -5,20 +5,20 @@ ghost use lib.ListN.{length, take};
 ghost use mathlib.Core.List.{[], _∷_};
 ghost use Rattle.octets.specs.Octets.{one};
 ghost use Rattle.text.specs.Text.{ascii};
-ghost use Rattle.text.specs.Written.{reached, written};
 ghost use Rattle.adler.specs.Adler.{adler};
 ghost use Rattle.intake.specs.declared.Answer.the-variants.{Unit};
-ghost use Rattle.replaying.specs.Lines.{line, openLine, packetLine, recordLine, closeLine, badLine, lineOf, endLine, lastLines, lineRoom, Lined};
+ghost use Rattle.telling.specs.Lines.{line, lineRoom, Lined};
+ghost use Rattle.replaying.specs.Lines.{openLine, packetLine, recordLine, closeLine, lineOf};
 use crate::Outcome;
 use adler::adler32;
 use intake::Answer;
 use numbers::one_if;
 use record::front_record;
-use text::put;
-use text::put_decimal;
-use text::put_numbers;
+use telling::put_bad;
+use telling::put_line;
 
-fn put_line(
+// Puts the line of a call, where there is room for it.
+fn put_call(
     text: &mut [u8],
     to: usize,
     at: usize,
@@ -31,12 +31,7 @@ fn put_line(
     requires { ⌜ to + lineRoom ≤ length (now text) ⌝ }
     ensures { λ r. ⌜ Lined (now (text .entry)) to (line at (now (call .entry)) lane (now (word .entry)) (now (ns .entry))) (now (text .exit)) r ⌝ }
 {
-    let to = put_decimal(text, to, at as u64);
-    let to = put(text, to, call);
-    let to = put_numbers(text, to, &[lane as u64]);
-    let to = put(text, to, word);
-    let to = put_numbers(text, to, ns);
-    put(text, to, b"\n")
+    put_line(text, to, at, call, lane as u64, word, ns)
 }
 
 // Puts the line of a call that was refused.
@@ -45,7 +40,7 @@ fn put_refused(text: &mut [u8], to: usize, at: usize, call: &[u8], lane: u8, ref
     requires { ⌜ to + lineRoom ≤ length (now text) ⌝ }
     ensures { λ r. ⌜ Lined (now (text .entry)) to (line at (now (call .entry)) lane (ascii " refused") (refusal ∷ [])) (now (text .exit)) r ⌝ }
 {
-    put_line(text, to, at, call, lane, b" refused", &[refusal as u64])
+    put_call(text, to, at, call, lane, b" refused", &[refusal as u64])
 }
 
 // Puts the line of a packet that was refused by the reader.
@@ -54,7 +49,7 @@ fn put_unread(text: &mut [u8], to: usize, at: usize, lane: u8, number: u8, place
     ensures { λ r. ⌜ Lined (now (text .entry)) to (line at (ascii " packet") lane (ascii " refused") (number ∷ place ∷ [])) (now (text .exit)) r ⌝ }
 {
     let ns = [number as u64, place as u64];
-    put_line(text, to, at, b" packet", lane, b" refused", &ns)
+    put_call(text, to, at, b" packet", lane, b" refused", &ns)
 }
 
 // Puts the line of a packet that was taken and ended no unit.
@@ -72,7 +67,7 @@ fn put_taken(
     ensures { λ r. ⌜ Lined (now (text .entry)) to (line at (ascii " packet") lane (now (word .entry)) (missing ∷ one «given_up» ∷ [])) (now (text .exit)) r ⌝ }
 {
     let ns = [missing as u64, one_if(given_up)];
-    put_line(text, to, at, b" packet", lane, word, &ns)
+    put_call(text, to, at, b" packet", lane, word, &ns)
 }
 
 // The Adler-32 of the first n octets of out.
@@ -103,7 +98,7 @@ fn put_unit(
     let given_up = one_if(given_up);
     let sum = adler_of(out, octets);
     let ns = [missing as u64, given_up, octets as u64, sum as u64];
-    put_line(text, to, at, b" packet", lane, b" unit", &ns)
+    put_call(text, to, at, b" packet", lane, b" unit", &ns)
 }
 
 fn put_packet(text: &mut [u8], to: usize, at: usize, lane: u8, answer: Answer, out: &[u8]) -> usize
@@ -113,7 +108,7 @@ fn put_packet(text: &mut [u8], to: usize, at: usize, lane: u8, answer: Answer, o
     match answer {
         Answer::Refused(k) => put_refused(text, to, at, b" packet", lane, k),
         Answer::Unread { number, place } => put_unread(text, to, at, lane, number, place),
-        Answer::Repeat => put_line(text, to, at, b" packet", lane, b" repeat", &[]),
+        Answer::Repeat => put_call(text, to, at, b" packet", lane, b" repeat", &[]),
         Answer::Stray { missing, given_up } => {
             put_taken(text, to, at, lane, b" stray", missing, given_up)
         }
@@ -133,7 +128,7 @@ fn put_opened(text: &mut [u8], to: usize, at: usize, lane: u8, refusal: u8) -> u
     ensures { λ r. ⌜ Lined (now (text .entry)) to (openLine at lane refusal) (now (text .exit)) r ⌝ }
 {
     if refusal == 0 {
-        return put_line(text, to, at, b" open", lane, b" ok", &[]);
+        return put_call(text, to, at, b" open", lane, b" ok", &[]);
     }
     put_refused(text, to, at, b" open", lane, refusal)
 }
@@ -152,7 +147,7 @@ fn put_record(text: &mut [u8], to: usize, at: usize, lane: u8, out: &[u8]) -> us
         r.missing as u64,
         r.broken as u64,
     ];
-    put_line(text, to, at, b" close", lane, b" record", &ns)
+    put_call(text, to, at, b" close", lane, b" record", &ns)
 }
 
 fn put_closed(text: &mut [u8], to: usize, at: usize, lane: u8, refusal: u8, out: &[u8]) -> usize
@@ -163,43 +158,6 @@ fn put_closed(text: &mut [u8], to: usize, at: usize, lane: u8, refusal: u8, out:
         return put_record(text, to, at, lane, out);
     }
     put_refused(text, to, at, b" close", lane, refusal)
-}
-
-fn put_bad(text: &mut [u8], to: usize, at: usize) -> usize
-    ensures { λ r. ⌜ r ≡ reached (length (now (text .entry))) to (badLine at) ⌝ }
-    ensures { λ _. ⌜ now (text .exit) ≡ written (now (text .entry)) to (badLine at) ⌝ }
-{
-    let to = put_decimal(text, to, at as u64);
-    put(text, to, b" bad\n")
-}
-
-fn put_end(text: &mut [u8], to: usize, at: usize, calls: usize, pool: &[u8]) -> usize
-    ensures { λ r. ⌜ r ≡ reached (length (now (text .entry))) to (endLine at calls (now (pool .entry))) ⌝ }
-    ensures { λ _. ⌜ now (text .exit) ≡ written (now (text .entry)) to (endLine at calls (now (pool .entry))) ⌝ }
-{
-    let to = put(text, to, b"end");
-    let sum = adler32(pool);
-    let to = put_numbers(text, to, &[at as u64, calls as u64, sum as u64]);
-    put(text, to, b"\n")
-}
-
-// Puts the last lines of a run of n octets.
-pub(crate) fn put_last(
-    text: &mut [u8],
-    to: usize,
-    n: usize,
-    at: usize,
-    calls: usize,
-    pool: &[u8],
-) -> usize
-    requires { ⌜ to + lineRoom ≤ length (now text) ⌝ }
-    ensures { λ r. ⌜ Lined (now (text .entry)) to (lastLines n at calls (now (pool .entry))) (now (text .exit)) r ⌝ }
-{
-    if at == n {
-        return put_end(text, to, at, calls, pool);
-    }
-    let to = put_bad(text, to, at);
-    put_end(text, to, at, calls, pool)
 }
 
 // Puts the line of what is told of the call at index at; out is the output after it.

@@ -5,7 +5,7 @@ use native.Mathlib.Omega.{arith}
 use borrow.Author.Tests.{not-true}
 use denote.Ref.{now}
 use lib.ListN.{length, length-take}
-use Rattle.replaying.specs.Lines.{lineRoom}
+use Rattle.telling.specs.Lines.{lineRoom}
 use Rattle.replaying.specs.Run.{standing}
 use Rattle.replaying.specs.declared.Chunk.{Chunk}
 use Rattle.replaying.proofs.Steps.{before}

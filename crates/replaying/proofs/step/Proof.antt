@@ -6,7 +6,8 @@ use denote.Ref.{now}
 use lib.ListN.{length}
 use Rattle.text.specs.Text.{ascii}
 use Rattle.replaying.specs.Run.{standing}
-use Rattle.replaying.proofs.Short.{lined, lined-to}
+use Rattle.telling.specs.Lines.{lastLines}
+use Rattle.telling.proofs.Short.{lined, lined-to, last-short}
 use Rattle.replaying.proofs.Steps.{is-ready, ends, too-long, here, ran-within, last, called, stepped}
 use Rattle.state.specs.declared.State.{State}
 use borrow.Author.Needs.{needs}
@@ -27,16 +28,18 @@ sub-run-call c = omega (arith, is-ready _ _ _ _ (c .before .before .before .befo
 part-run-call-start : tie.Need-part-run-call-start
 part-run-call-start c = is-ready _ _ _ _ (c .before .before .before .before .before .before .before .pre) .0 .inside
 
-put-last-requires : tie.Need-put-last-requires
-put-last-requires c κs = is-ready _ _ _ _ (c .before .before .before .before .before .before .before .before .before .before .before .before .before .before .before .before .before .before .pre) .1
-
 returns-2 : tie.Need-returns-2
 returns-2 c =
     let a = c .before .before .before .before .before .before .before .before .before .before .before .before .before .before .before .before .before .before .before .before .before .before .args in
     let s = now (a .run) in
     let w = standing (a .chunk .progress) (now (a .pool)) (now (a .out)) in
     let k = last s w _ _ _ (here s w (c .before .before .before .before .before .before .before .before .before .before .before .run-call .ensures)) (c .before .before .before .before .before .before .before .before .before .before .before .before .before .before .before .before .if1 .left) (c .before .before .before .before .before .before .if2 .taken) in
-    stepped s w _ _ (now (a .text)) (a .chunk .octets) k (c .stopped2 .ensures .0, (refl, (refl, lined-to (now (a .text)) (a .chunk .octets) _ (c .stopped2 .ensures .1) (c .before .before .before .put-last .ensures))))
+    let start = c .before .before .before .before .before .before .before .before .before .before .before .before .before .before .before .before .before .before .before .before .before .before in
+    let pool = c .before .before .before .before .before .before .before .before .before .before .before .run-call .last .1 .1 .0 in
+    let t = lastLines (length s) (a .chunk .progress .at) (a .chunk .progress .calls) pool in
+    let short = last-short (length s) (a .chunk .progress .at) (a .chunk .progress .calls) pool (omega (arith, start)) (omega (arith, start)) in
+    let l = lined (now (a .text)) (a .chunk .octets) t (is-ready _ _ _ _ (start .pre) .1) short (c .before .before .before .put-last .ensures) in
+    stepped s w _ _ (now (a .text)) (a .chunk .octets) k (c .stopped2 .ensures .0, (refl, (refl, lined-to (now (a .text)) (a .chunk .octets) t (c .stopped2 .ensures .1) l)))
 
 put-told-requires : tie.Need-put-told-requires
 put-told-requires c κs = is-ready _ _ _ _ (c .before .before .before .before .before .before .before .before .before .before .before .before .before .before .before .before .before .before .before .pre) .1
@@ -64,4 +67,4 @@ returns-3 c =
 
 pub step-spec : {M : Type 1} → statement M
 step-spec =
-    tie.close (tie.spec (λ c. search needs) (λ c κs. search needs) (λ c κs. search needs) (λ c. search needs) returns sub-run-call part-run-call-start (λ c. search needs) (λ c κs. search needs) put-last-requires (λ c κs. search needs) (λ c. search needs) (λ c. search needs) (λ c. search needs) returns-2 put-told-requires add-t18 add-t40 (λ c. search needs) (λ c. search needs) (λ c. search needs) returns-3)
+    tie.close (tie.spec (λ c. search needs) (λ c κs. search needs) (λ c κs. search needs) (λ c. search needs) returns sub-run-call part-run-call-start (λ c. search needs) (λ c κs. search needs) (λ c κs. search needs) (λ c κs. search needs) (λ c. search needs) (λ c. search needs) (λ c. search needs) returns-2 put-told-requires add-t18 add-t40 (λ c. search needs) (λ c. search needs) (λ c. search needs) returns-3)

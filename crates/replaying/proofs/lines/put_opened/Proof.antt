@@ -5,7 +5,7 @@ use Rattle.replaying.proofs.lines.put_opened.Statement.{statement}
 use Rattle.replaying.proofs.lines.put_opened.Tie as tie
 
 returns : tie.Need-returns
-returns c = simp (eq-eqb _ 0 (c .before .before .before .before .before .before .before .if1 .taken)) (c .before .before .put-line .ensures)
+returns c = simp (eq-eqb _ 0 (c .before .before .before .before .before .before .before .if1 .taken)) (c .before .before .put-call .ensures)
 
 returns-2 : tie.Need-returns-2
 returns-2 c = simp (ne-eqb _ 0 (c .before .before .before .before .before .if1 .left)) (c .before .before .put-refused .ensures)

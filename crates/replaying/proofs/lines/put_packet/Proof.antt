@@ -2,7 +2,8 @@
 use mathlib.Core.Path.{subst⁻¹}
 use denote.Ref.{now}
 use Rattle.intake.specs.declared.Answer.{Answer}
-use Rattle.replaying.specs.Lines.{packetLine, Lined}
+use Rattle.telling.specs.Lines.{Lined}
+use Rattle.replaying.specs.Lines.{packetLine}
 use borrow.Author.Needs.{needs}
 use Rattle.replaying.proofs.lines.put_packet.Statement.{statement}
 use Rattle.replaying.proofs.lines.put_packet.Tie as tie
@@ -23,7 +24,7 @@ returns-3 : tie.Need-returns-3
 unfolding packetLine
 returns-3 c =
     let a = c .before .before .before .before .before .before .before .before .before .before .before .args in
-    subst⁻¹ (λ (x : Answer). Lined (now (a .text)) (a .to) (packetLine (a .at) (a .lane) x (now (a .out))) (c .before .before .put-line .last .0) (c .before .before .put-line .result)) (c .before .before .before .before .before .before .before .enum-told .given .1) (c .before .before .put-line .ensures)
+    subst⁻¹ (λ (x : Answer). Lined (now (a .text)) (a .to) (packetLine (a .at) (a .lane) x (now (a .out))) (c .before .before .put-call .last .0) (c .before .before .put-call .result)) (c .before .before .before .before .before .before .before .enum-told .given .1) (c .before .before .put-call .ensures)
 
 returns-4 : tie.Need-returns-4
 unfolding packetLine

@@ -4,7 +4,7 @@ use Rattle.replaying.proofs.lines.put_taken.Statement.{statement}
 use Rattle.replaying.proofs.lines.put_taken.Tie as tie
 
 returns : tie.Need-returns
-returns c = rw (← (c .before .before .before .before .before .before .one-if .ensures)) (c .before .before .put-line .ensures)
+returns c = rw (← (c .before .before .before .before .before .before .one-if .ensures)) (c .before .before .put-call .ensures)
 
 pub put-taken-spec : {M : Type 1} → statement M
 put-taken-spec =

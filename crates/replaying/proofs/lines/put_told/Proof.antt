@@ -2,9 +2,10 @@
 use mathlib.Core.Path.{subst⁻¹}
 use native.Mathlib.Omega.{arith}
 use denote.Ref.{now}
-use Rattle.replaying.specs.Lines.{badLine, lineOf, Lined}
+use Rattle.telling.specs.Lines.{badLine, Lined}
+use Rattle.replaying.specs.Lines.{lineOf}
 use Rattle.replaying.specs.declared.Outcome.{Outcome}
-use Rattle.replaying.proofs.Short.{lined, bad-short}
+use Rattle.telling.proofs.Short.{lined, bad-short}
 use borrow.Author.Needs.{needs}
 use Rattle.replaying.proofs.lines.put_told.Statement.{statement}
 use Rattle.replaying.proofs.lines.put_told.Tie as tie

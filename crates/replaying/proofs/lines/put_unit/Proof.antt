@@ -6,7 +6,7 @@ use Rattle.replaying.proofs.lines.put_unit.Tie as tie
 
 returns : tie.Need-returns
 unfolding packetLine
-returns c = rw (← (c .before .before .before .before .before .before .before .before .one-if .ensures), ← (c .before .before .before .before .before .before .before .adler-of .ensures)) (c .before .before .put-line .ensures)
+returns c = rw (← (c .before .before .before .before .before .before .before .before .one-if .ensures), ← (c .before .before .before .before .before .before .before .adler-of .ensures)) (c .before .before .put-call .ensures)
 
 pub put-unit-spec : {M : Type 1} → statement M
 put-unit-spec =

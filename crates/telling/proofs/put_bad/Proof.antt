@@ -2,10 +2,10 @@
 use denote.Ref.{now}
 use Rattle.text.specs.Text.{ascii, decimal}
 use Rattle.text.proofs.Cut.{after}
-use Rattle.replaying.specs.Lines.{badLine}
+use Rattle.telling.specs.Lines.{badLine}
 use borrow.Author.Needs.{needs}
-use Rattle.replaying.proofs.lines.put_bad.Statement.{statement}
-use Rattle.replaying.proofs.lines.put_bad.Tie as tie
+use Rattle.telling.proofs.put_bad.Statement.{statement}
+use Rattle.telling.proofs.put_bad.Tie as tie
 
 returns : tie.Need-returns
 unfolding badLine
