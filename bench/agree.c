@@ -1,7 +1,7 @@
 /*
  * agree: calls the library and the baseline with the same pseudo-random inputs, and stops at the first difference in an answer, a state, a pool or an
- * output. A baseline that did less than the library would make every ratio a lie. Each refusal must be met, and each place that those of reading tell, so
- * that the comparison has seen it.
+ * output. A baseline that did less than the library would make every ratio a lie. Each refusal must be met, each place that those of reading tell, and each
+ * answer to a frame, so that the comparison has seen it.
  */
 #include "sides.h"
 
@@ -10,7 +10,7 @@
 #include <stdlib.h>
 #include <string.h>
 
-enum { ROOM = 81920 + 64, REFUSALS = 28, READING = 8, NO_PLACE = 99999 };
+enum { ROOM = 81920 + 64, REFUSALS = 29, READING = 8, NO_PLACE = 99999, FRAME_ANSWERS = 16, PIECE_ROOM = BRANMUSLIN_PIECE_LENGTH + 1 };
 
 /* Who tells places; and those that each refusal of reading can have, a bit each: of 1, which counts octets, the ones below 8. */
 enum { READER, LANE, TELLERS };
@@ -22,7 +22,8 @@ static const struct side *const sides[2] = {&library, &baseline};
 static uint64_t seed = 1;
 static unsigned long calls, met[REFUSALS];
 static uint8_t met_places[TELLERS][READING];
-static uint8_t input[ROOM], output[2][ROOM], pool[2][BRANMUSLIN_POOL_LENGTH + 1];
+static unsigned long met_frames[FRAME_ANSWERS];
+static uint8_t input[ROOM], output[2][ROOM], pool[2][BRANMUSLIN_POOL_LENGTH + 1], piece[2][PIECE_ROOM];
 
 /* xorshift64*: its high half is even enough, and the same on every machine. */
 static uint32_t any(void)
@@ -369,6 +370,108 @@ static void run_lanes(unsigned long n)
     }
 }
 
+/* Frames. A source sends packets one after another, in the input; what a frame has of it is right, or changed a little. */
+
+struct source {
+    size_t length, at;     /* the stream's octets, and where the next frame begins */
+    size_t next[ROOM + 1]; /* of each place, where the first packet begins that begins there or after it */
+};
+static struct source source;
+
+/* Packets of either kind; some are over 8,192 octets, and some are none. */
+static void make_source(void)
+{
+    size_t at = 0, begin = 0;
+    fill(input, ROOM);
+    for (;;) {
+        const size_t data = one_in(40) ? 8180 + below(20) : one_in(8) ? 1 + below(4000) : 1 + below(200);
+        const bool is_space = !one_in(4);
+        if (at + data + 8 > ROOM)
+            break;
+        for (; begin <= at; begin++)
+            source.next[begin] = at;
+        put_number(input + at, 4, is_space ? 0x002AC005 : 0xEB000000);
+        put_number(input + at + 4, is_space ? 2 : 4, (uint32_t)(is_space ? data - 1 : data + 8));
+        if (one_in(100))
+            input[at] |= 0x20;
+        at += data + (is_space ? 6 : 8);
+    }
+    for (; begin <= at; begin++)
+        source.next[begin] = at;
+    source.length = at;
+    source.at = 0;
+}
+
+/* A pointer: the right one, beside it, any, or one that is no offset. */
+static uint32_t some_pointer(size_t length)
+{
+    const size_t first = source.next[source.at] - source.at;
+    const uint32_t right = first < length ? (uint32_t)first : BRANMUSLIN_NO_PACKET;
+    if (!one_in(10))
+        return right;
+    return one_in(4) ? below(2050) : one_in(3) ? 2046 + below(2) : one_in(2) ? about((uint32_t)length) : one_in(2) ? right + below(3) - 1 : any();
+}
+
+static void compare_frames(const struct branmuslin_framed a[2])
+{
+    require(a[0].kind == a[1].kind && a[0].given_up == a[1].given_up && a[0].dropped == a[1].dropped, "take_frame", "the answer");
+    require(a[0].packets == a[1].packets && a[0].octets == a[1].octets, "take_frame", "the packets");
+    require(a[0].state.started == a[1].state.started && a[0].state.count == a[1].state.count && a[0].state.piece == a[1].state.piece, "take_frame",
+            "the state");
+    require(memcmp(piece[0], piece[1], sizeof piece[0]) == 0, "take_frame", "the buffer");
+    require(memcmp(output[0], output[1], BRANMUSLIN_FRAME_OUTPUT + 10) == 0, "take_frame", "the output");
+    met_frames[a[0].kind * 4 + a[0].given_up * 2 + a[0].dropped]++;
+}
+
+/* One frame of the source, or a state or lengths that are wrong. */
+static struct branmuslin_frames frame_one(struct branmuslin_frames state, size_t length)
+{
+    const uint32_t count = one_in(64) ? about(255) : one_in(16) ? state.count + below(4) : (state.count + 1u) % 256, pointer = some_pointer(length);
+    const size_t room = BRANMUSLIN_FRAME_OUTPUT + (one_in(64) ? below(3) - 1 : 0), lent = BRANMUSLIN_PIECE_LENGTH + (one_in(64) ? below(3) - 1 : 0);
+    struct branmuslin_framed a[2];
+    uint8_t refusal[2];
+    if (one_in(64))
+        state.piece = one_in(2) ? 8190 + below(4) : below(100);
+    if (one_in(64))
+        state.started = !state.started;
+    for (int s = 0; s < 2; s++) {
+        a[s] = sides[s]->take_frame(state, count, pointer, input + source.at, length, piece[s], lent, output[s], room);
+        refusal[s] = a[s].refusal;
+    }
+    compare("take_frame", refusal);
+    compare_frames(a);
+    return a[0].state.piece > 8191 ? sides[0]->fresh_frames() : a[0].state;
+}
+
+/* A recording, of which some frames are lost. */
+static void run_frames(void)
+{
+    const size_t common = one_in(2) ? 0 : 8 + below(2039);
+    struct branmuslin_frames state = library.fresh_frames();
+    require(!state.started && state.count == 0 && state.piece == 0 && !baseline.fresh_frames().started, "fresh_frames", "the state");
+    make_source();
+    fill(piece[0], sizeof piece[0]);
+    memcpy(piece[1], piece[0], sizeof piece[0]);
+    same_outputs_before(ROOM);
+    while (source.at + 2050 < source.length) {
+        const size_t length = one_in(64) ? about(2047) : one_in(64) ? below(9) : common != 0 ? common : 8 + below(2039);
+        state = frame_one(state, length);
+        if (length >= 8 && length <= 2046)
+            source.at += length * (one_in(16) ? 2 : 1);
+    }
+}
+
+/* Taken with each flag alone, both and none; and the two other kinds, without. */
+static bool is_each_frame_met(void)
+{
+    for (int answer = 0; answer < 4 * BRANMUSLIN_FRAME_TAKEN + 4; answer++)
+        if (met_frames[answer] == 0 && (answer % 4 == 0 || answer >= 4 * BRANMUSLIN_FRAME_TAKEN)) {
+            printf("agree: no frame was answered %d with the flags %d, so nothing was compared there\n", answer / 4, answer % 4);
+            return false;
+        }
+    return true;
+}
+
 static bool is_all_met(void)
 {
     for (int refusal = 0; refusal < REFUSALS; refusal++)
@@ -382,7 +485,7 @@ static bool is_all_met(void)
                 printf("agree: %s did not tell every place of %d, so some were not compared\n", teller == READER ? "the reader" : "a lane", refusal);
                 return false;
             }
-    return true;
+    return is_each_frame_met();
 }
 
 int main(void)
@@ -394,8 +497,10 @@ int main(void)
     fill(input, ROOM);
     for (int run = 0; run < 60; run++)
         run_lanes(1000);
+    for (int run = 0; run < 400; run++)
+        run_frames();
     if (!is_all_met())
         return 1;
-    printf("agree: library and baseline gave the same in %lu calls, which met every refusal and every place\n", calls);
+    printf("agree: library and baseline gave the same in %lu calls, which met every refusal, every place and every answer to a frame\n", calls);
     return 0;
 }

@@ -3,7 +3,7 @@
 
 #include <string.h>
 
-enum { SPACE_HEADER = 6, BLOCK = 256, FREE = 512, MOST_APID = 2046, MOST_COUNT = 16383, MOST_SECONDARY = 63 };
+enum { SPACE_HEADER = 6, LONGEST_HEADER = 8, BLOCK = 256, FREE = 512, MOST_APID = 2046, MOST_COUNT = 16383, MOST_SECONDARY = 63 };
 
 static uint32_t be16(const uint8_t *s)
 {
@@ -557,4 +557,117 @@ struct branmuslin_answer base_take_packet(struct branmuslin_state state, size_t 
 {
     const struct told told = take(&state, lane, packet, packet_length, pool, pool_length, output, output_length);
     return (struct branmuslin_answer){told.refusal, told.kind, told.given_up, told.missing, told.octets, told.place, state};
+}
+
+/* Frames. */
+
+/* What some octets are: exactly one packet of at most 8,192 octets, the beginning of one, or neither. */
+enum meaning { NEITHER, BEGINNING, ONE_PACKET };
+
+/* Whether octets that were read as cut short may become a packet of at most 8,192: where the header is whole, it tells. */
+static inline bool is_beginning(const uint8_t *s, size_t n)
+{
+    if (s[0] >> 5 == BRANMUSLIN_SPACE)
+        return n < SPACE_HEADER || SPACE_HEADER + be16(s + 4) + 1 <= BRANMUSLIN_LONGEST_FRAMED;
+    switch (s[0] & 3) {
+    case 2: return n < 4 || be16(s + 2) <= BRANMUSLIN_LONGEST_FRAMED;
+    case 3: return n < LONGEST_HEADER || be32(s + 4) <= BRANMUSLIN_LONGEST_FRAMED;
+    default: return true;
+    }
+}
+
+/* The piece with the first n octets of the field after it. They lie apart, but reading looks only at the header: so the longest one's octets suffice. */
+static inline enum meaning meaning_of(const uint8_t *piece, size_t kept, const uint8_t *field, size_t n)
+{
+    uint8_t front[LONGEST_HEADER];
+    struct branmuslin_packet packet;
+    size_t place;
+    const uint8_t *header = piece;
+    if (kept < LONGEST_HEADER) {
+        memcpy(front, piece, kept);
+        memcpy(front + kept, field, n < LONGEST_HEADER - kept ? n : LONGEST_HEADER - kept);
+        header = front;
+    }
+    const uint8_t refusal = read_packet(header, kept + n, &packet, &place);
+    if (refusal == BRANMUSLIN_DONE)
+        return packet.offset + packet.length == kept + n && kept + n <= BRANMUSLIN_LONGEST_FRAMED ? ONE_PACKET : NEITHER;
+    return refusal == BRANMUSLIN_CUT_SHORT && is_beginning(header, kept + n) ? BEGINNING : NEITHER;
+}
+
+/* The whole packets at the front of some octets, and whether what comes after them can't be the beginning of one. */
+struct walked {
+    size_t octets, packets;
+    bool dropped;
+};
+
+static inline struct walked walk(const uint8_t *s, size_t n)
+{
+    struct walked walked = {0, 0, false};
+    struct branmuslin_packet packet;
+    size_t place;
+    while (walked.octets < n) {
+        const uint8_t refusal = read_packet(s + walked.octets, n - walked.octets, &packet, &place);
+        if (refusal != BRANMUSLIN_DONE) {
+            walked.dropped = refusal != BRANMUSLIN_CUT_SHORT || !is_beginning(s + walked.octets, n - walked.octets);
+            break;
+        }
+        walked.octets += packet.offset + packet.length;
+        walked.packets++;
+    }
+    return walked;
+}
+
+static inline bool is_bad_frame(const struct branmuslin_frames *s, uint32_t count, uint32_t pointer, size_t field_length, size_t piece_length)
+{
+    const bool is_offset = pointer != BRANMUSLIN_IDLE_ONLY && pointer != BRANMUSLIN_NO_PACKET;
+    return field_length < BRANMUSLIN_SHORTEST_FIELD || field_length > BRANMUSLIN_LONGEST_FIELD || piece_length != BRANMUSLIN_PIECE_LENGTH ||
+           count > 255 || (is_offset && pointer >= field_length) || s->piece >= BRANMUSLIN_PIECE_LENGTH;
+}
+
+/* What the piece becomes with the first n octets of the field. */
+static inline enum meaning goes_on(const struct branmuslin_frames *s, uint32_t count, uint32_t pointer, const uint8_t *field, size_t n,
+                                   const uint8_t *piece)
+{
+    if (s->piece == 0 || (s->started && count != (s->count + 1u) % 256) || pointer == BRANMUSLIN_IDLE_ONLY)
+        return NEITHER;
+    const enum meaning meaning = meaning_of(piece, s->piece, field, n);
+    return meaning == BEGINNING && pointer != BRANMUSLIN_NO_PACKET ? NEITHER : meaning;
+}
+
+struct branmuslin_frames base_fresh_frames(void)
+{
+    return (struct branmuslin_frames){0};
+}
+
+/* All is decided before the first octet is copied, and each is copied once. */
+struct branmuslin_framed base_take_frame(struct branmuslin_frames state, uint32_t count, uint32_t pointer, const uint8_t *field, size_t field_length,
+                                         uint8_t *piece, size_t piece_length, uint8_t *output, size_t output_length)
+{
+    if (is_bad_frame(&state, count, pointer, field_length, piece_length))
+        return (struct branmuslin_framed){.refusal = BRANMUSLIN_BAD_FRAME, .state = state};
+    if (output_length < BRANMUSLIN_FRAME_OUTPUT)
+        return (struct branmuslin_framed){.refusal = BRANMUSLIN_NO_ROOM, .state = state};
+    if (state.started && count == state.count)
+        return (struct branmuslin_framed){.kind = BRANMUSLIN_FRAME_REPEAT, .state = state};
+    const size_t from = pointer < field_length ? pointer : field_length;
+    const enum meaning meaning = goes_on(&state, count, pointer, field, from, piece);
+    const struct walked walked = walk(field + from, field_length - from);
+    const size_t to = from + walked.octets;
+    size_t out = walked.octets, left = 0;
+    if (meaning == ONE_PACKET) {
+        memcpy(output, piece, state.piece);
+        memcpy(output + state.piece, field, to);
+        out = state.piece + to;
+    } else {
+        memcpy(output, field + from, out);
+    }
+    if (meaning == BEGINNING) {
+        memcpy(piece + state.piece, field, field_length);
+        left = state.piece + field_length;
+    } else if (!walked.dropped) {
+        left = field_length - to;
+        memcpy(piece, field + to, left);
+    }
+    return (struct branmuslin_framed){.kind = BRANMUSLIN_FRAME_TAKEN, .given_up = state.piece != 0 && meaning == NEITHER, .dropped = walked.dropped,
+                                      .packets = walked.packets + (meaning == ONE_PACKET), .octets = out, .state = {true, (uint8_t)count, left}};
 }

@@ -4,18 +4,20 @@
 #include <stdlib.h>
 #include <string.h>
 
-enum { MOST_STEPS = 1024, WALK_OCTETS = 16384, CALLS = 64, RECORDS = 4096, LONG_DATA = 65536, APID = 42 };
+enum { MOST_STEPS = 1024, WALK_OCTETS = 16384, CALLS = 64, RECORDS = 4096, FRAMES = 16, LONG_DATA = 65536, APID = 42 };
 
-/* A packet for a lane; and for every case the octets that memcpy copies. */
+/* A packet for a lane, or a frame with its pointer; and for every case the octets that memcpy copies. */
 struct step {
     size_t lane;
     const uint8_t *octets;
     size_t length;
+    uint32_t pointer;
 };
 
 static struct step steps[MOST_STEPS];
 static size_t step_count, units, data_length, input_length;
 static uint8_t input[2 * BRANMUSLIN_LONGEST_PACKET], output[BRANMUSLIN_LONGEST_UNIT], pool[BRANMUSLIN_POOL_LENGTH];
+static uint8_t piece[BRANMUSLIN_PIECE_LENGTH];
 static struct branmuslin_state start;
 static uint32_t counts[BRANMUSLIN_LANES]; /* the next count of each lane */
 
@@ -50,7 +52,7 @@ static void add_step(size_t lane, size_t length)
 {
     if (step_count == MOST_STEPS || sizeof input - input_length < length)
         abort();
-    steps[step_count++] = (struct step){lane, input + input_length, length};
+    steps[step_count++] = (struct step){lane, input + input_length, length, 0};
     input_length += length;
     units++;
 }
@@ -273,7 +275,7 @@ static void soundness_of(size_t first, size_t blocks)
     begin(0);
     prepare_state(first, blocks);
     for (; step_count < CALLS; step_count++)
-        steps[step_count] = (struct step){0, (const uint8_t *)&start, sizeof start};
+        steps[step_count] = (struct step){0, (const uint8_t *)&start, sizeof start, 0};
     units = CALLS;
 }
 
@@ -291,6 +293,46 @@ static void prepare_all_hold(size_t size)
 static void prepare_one_holds(size_t size)
 {
     soundness_of(BRANMUSLIN_LANES - 1, size);
+}
+
+/* Frames. A batch is a recording from a fresh start, of which no frame is lost. */
+
+static uint64_t run_frames(const struct side *side)
+{
+    struct branmuslin_frames state = side->fresh_frames();
+    uint64_t sum = 0;
+    for (size_t i = 0; i < step_count; i++) {
+        const struct branmuslin_framed framed = side->take_frame(state, (uint32_t)i, steps[i].pointer, steps[i].octets, steps[i].length, piece,
+                                                                 sizeof piece, output, sizeof output);
+        state = framed.state;
+        sum += framed.octets + framed.packets + state.piece + 1000u * framed.refusal;
+    }
+    return sum;
+}
+
+/* Packets with so many octets of data, one after another, cut into fields: each one's pointer is where the first packet begins in it. */
+static void prepare_frames(size_t size, size_t field)
+{
+    const size_t packet = size + 6;
+    begin(size);
+    while (input_length < FRAMES * field)
+        add_space(0, 0, APID, BRANMUSLIN_UNSEGMENTED, size);
+    for (size_t i = 0; i < FRAMES; i++) {
+        const size_t before = (packet - i * field % packet) % packet;
+        steps[i] = (struct step){0, input + i * field, field, before < field ? (uint32_t)before : BRANMUSLIN_NO_PACKET};
+    }
+    step_count = units = FRAMES;
+}
+
+/* The field of a frame of 1,115 octets, a common length, and the longest. */
+static void prepare_common_frames(size_t size)
+{
+    prepare_frames(size, 1115);
+}
+
+static void prepare_longest_frames(size_t size)
+{
+    prepare_frames(size, BRANMUSLIN_LONGEST_FIELD);
 }
 
 const struct measured_case cases[] = {
@@ -314,6 +356,12 @@ const struct measured_case cases[] = {
     {"soundness, nothing held", "call", 1.1, prepare_nothing_held, 0, run_soundness},
     {"soundness, eight lanes hold 8", "call", 0.95, prepare_all_hold, 8, run_soundness},
     {"soundness, one lane holds 64", "call", 1.05, prepare_one_holds, 64, run_soundness},
+    {"frames of 1,115, packets of 64", "frame", 1.3, prepare_common_frames, 64, run_frames},
+    {"frames of 1,115, packets of 512", "frame", 1.3, prepare_common_frames, 512, run_frames},
+    {"frames of 1,115, packets of 4,096", "frame", 1.3, prepare_common_frames, 4096, run_frames},
+    {"frames of 2,046, packets of 64", "frame", 1.3, prepare_longest_frames, 64, run_frames},
+    {"frames of 2,046, packets of 512", "frame", 1.3, prepare_longest_frames, 512, run_frames},
+    {"frames of 2,046, packets of 4,096", "frame", 1.3, prepare_longest_frames, 4096, run_frames},
 };
 
 const size_t case_count = sizeof cases / sizeof *cases;

@@ -6,7 +6,7 @@
 
 struct measured_case {
     const char *name;
-    const char *each;              /* what one number is for: a packet, a record or a call */
+    const char *each;              /* what one number is for: a packet, a record, a frame or a call */
     double most_ratio;             /* the target of the time as a ratio to the baseline's */
     void (*prepare)(size_t size);
     size_t size;
@@ -16,7 +16,7 @@ struct measured_case {
 extern const struct measured_case cases[];
 extern const size_t case_count;
 
-/* How many packets, records or calls a batch of the prepared case has. */
+/* How many packets, records, frames or calls a batch of the prepared case has. */
 size_t units_in_batch(void);
 
 /* Copies the octets of a batch, packet by packet. */

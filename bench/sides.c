@@ -15,6 +15,8 @@ const struct side library = {
     .open_lane = branmuslin_open_lane,
     .take_packet = branmuslin_take_packet,
     .close_lane = branmuslin_close_lane,
+    .fresh_frames = branmuslin_fresh_frames,
+    .take_frame = branmuslin_take_frame,
 };
 
 const struct side baseline = {
@@ -30,4 +32,6 @@ const struct side baseline = {
     .open_lane = base_open_lane,
     .take_packet = base_take_packet,
     .close_lane = base_close_lane,
+    .fresh_frames = base_fresh_frames,
+    .take_frame = base_take_frame,
 };

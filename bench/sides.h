@@ -23,6 +23,9 @@ struct side {
                                             size_t pool_length, uint8_t *output, size_t output_length);
     struct branmuslin_change (*close_lane)(struct branmuslin_state state, size_t lane, const uint8_t *pool, size_t pool_length, uint8_t *output,
                                            size_t output_length);
+    struct branmuslin_frames (*fresh_frames)(void);
+    struct branmuslin_framed (*take_frame)(struct branmuslin_frames state, uint32_t count, uint32_t pointer, const uint8_t *field, size_t field_length,
+                                           uint8_t *piece, size_t piece_length, uint8_t *output, size_t output_length);
 };
 
 extern const struct side library, baseline;

@@ -2,11 +2,14 @@
  * intake: takes the packets of up to eight uploads into lanes, by the library branmuslin, and keeps the credit records.
  *
  *     cc intake.c $(pkg-config --cflags --libs branmuslin) -o intake
- *     ./intake [--units DIR] [--records FILE] STATION:APID:SECONDARY:SHARE:CAP:UPLOAD ...
+ *     ./intake [--units DIR] [--records FILE] [--frames] STATION:APID:SECONDARY:SHARE:CAP:UPLOAD ...
  *
  * An UPLOAD is a file of packets one after another, of any length: each is read whole before the first packet is taken. The first goes to lane 0,
  * and so on; the numbers are the lane's settings (SECONDARY in octets, SHARE and CAP in blocks of 256 octets). The lanes are opened in order, take one
  * packet of each upload in turn, where an upload that is used up is passed over, and are closed in order.
+ *
+ * With --frames each UPLOAD is a frame file, of any length too, and is read frame by frame: frames one after another, each its count, its first header
+ * pointer and the octets of its field, 2 octets each with the high one first, and then the field. The packets that come out go to the lane.
  *
  * A unit is written to DIR/LANE-NUMBER.unit, numbered from 0 in each lane, or discarded where no DIR is given; DIR must be there. The credit
  * records, 20 octets a lane in the order of the lanes, are written to FILE and read back from it.
@@ -18,6 +21,12 @@
  *     8 refused 13 an Encapsulation Packet is sent to a lane
  *     14 refused 1 2 the octets end before the header or the packet does; the upload ends here, with octets left: 2
  *     units 1 packets 1 missing 0 broken 0 repeats 0 refused 2
+ *
+ * Of a frame file, the offset of a packet is that of the frame from which it came out, which is the one that it ends in. A frame that is refused has a
+ * line with its offset and its count, and one that is cut off ends the upload; both are counted by `refused`:
+ *
+ *     52 frame 256 refused 28 the count is over 255
+ *     86 bad the frame is cut off; the upload ends here, with octets left: 9
  *
  * With several uploads, each line begins with the number of the lane. A lane that is refused at opening has a line such as
  * `opening refused 22 ..`, no tallies and no record.
@@ -33,13 +42,28 @@
 
 enum { DONE, FAILED, WRONG_CALL };
 
+/* The header of a frame in a frame file, and the longest field that it can tell. */
+enum { FRAME_HEADER = 6, LONGEST_TOLD = 65535 };
+
+/* What is read of a frame file, and what the library needs from frame to frame: the state and the buffer of the piece. */
+struct frame_file {
+    FILE *file;        /* null for an upload of packets */
+    size_t at, next;   /* offsets of the frame that was read last and of the next one */
+    bool ended;
+    struct branmuslin_frames state;
+    uint8_t piece[BRANMUSLIN_PIECE_LENGTH];
+    uint8_t packets[BRANMUSLIN_FRAME_OUTPUT];
+};
+
 struct upload {
     const char *path;
     char front[3]; /* of its lines: the lane's number and a blank; nothing for a single upload */
     struct branmuslin_settings settings;
-    uint8_t *octets;
+    uint8_t *whole;        /* a file of packets, to be freed */
+    const uint8_t *octets; /* packets one after another: those of the file, or those that came out of the last frame */
     size_t length;
-    size_t at; /* where the next packet begins; the length once the upload is used up */
+    size_t at; /* where the next packet begins; the length once they are used up */
+    struct frame_file frames;
     size_t units, repeats, refused;
     bool credited; /* whether its lane was closed, and so has a record */
     uint8_t record[BRANMUSLIN_RECORD_LENGTH];
@@ -50,12 +74,14 @@ struct intake {
     struct branmuslin_state state;
     uint8_t pool[BRANMUSLIN_POOL_LENGTH];
     uint8_t unit[BRANMUSLIN_LONGEST_UNIT];
+    uint8_t field[LONGEST_TOLD];
     struct upload uploads[BRANMUSLIN_LANES];
     size_t lanes;
     const char *units_to, *records_to; /* null where none is given */
+    bool framed;                       /* whether the uploads are frame files */
 };
 
-/* Every number that can come up here, but for 7: a lane is given whole packets, the outputs suffice, and the state and the pool are the library's own. */
+/* Every number that can come up here, but for 7 and 28: a lane is given whole packets, the outputs suffice, and the state and the pool are the library's own. */
 static const char *const causes[] = {
     [BRANMUSLIN_CUT_SHORT] = "the octets end before the header or the packet does",
     [BRANMUSLIN_BAD_VERSION] = "the version is neither 000 nor 111",
@@ -87,6 +113,14 @@ static const char *cause_of_7(size_t place)
     if (place == 0)
         return "protocol ID 6 in a 1 or 2 octet header";
     return place == 1 ? "the extension is not 0, and the protocol ID is not 6" : "the CCSDS field is not 0";
+}
+
+/* Of the causes of 28 three can be in the file; the buffer and the state are the library's own. */
+static const char *cause_of_28(uint32_t count, size_t length)
+{
+    if (length < BRANMUSLIN_SHORTEST_FIELD || length > BRANMUSLIN_LONGEST_FIELD)
+        return "the field has not 8 to 2,046 octets";
+    return count > 255 ? "the count is over 255" : "the first header pointer is an offset at or past the field's end";
 }
 
 static int fail(const char *what, const char *path)
@@ -150,10 +184,10 @@ static int write_unit(struct intake *intake, size_t lane, size_t length)
     return write_file(path, intake->unit, length);
 }
 
-/* Reading alone, which refuses with 1 to 7, tells a place. */
+/* Reading alone, which refuses with 1 to 7, tells a place. A packet of a frame file may lie across frames, so that its own offset says little. */
 static void print_refused_packet(struct upload *upload, uint8_t refusal, size_t place)
 {
-    printf("%s%zu refused %u ", upload->front, upload->at, (unsigned)refusal);
+    printf("%s%zu refused %u ", upload->front, upload->frames.file ? upload->frames.at : upload->at, (unsigned)refusal);
     if (refusal <= BRANMUSLIN_NAMES_NOTHING)
         printf("%zu ", place);
     fputs(refusal == BRANMUSLIN_NAMES_NOTHING ? cause_of_7(place) : cause(refusal), stdout);
@@ -170,8 +204,82 @@ static void open_lanes(struct intake *intake)
         if (change.refusal != BRANMUSLIN_DONE) {
             printf("%sopening refused %u %s\n", upload->front, (unsigned)change.refusal, cause(change.refusal));
             upload->at = upload->length;
+            upload->frames.ended = true;
         }
     }
+}
+
+/* Opens a frame file. That it can't be read, as a folder can't, shows with the first octet, and is to be told before anything is taken. */
+static int open_frames(struct upload *upload)
+{
+    struct frame_file *frames = &upload->frames;
+    frames->file = fopen(upload->path, "rb");
+    if (!frames->file)
+        return fail("can't read", upload->path);
+    const int first = getc(frames->file);
+    if (ferror(frames->file))
+        return fail("can't read", upload->path);
+    ungetc(first, frames->file);
+    frames->state = branmuslin_fresh_frames();
+    frames->ended = false;
+    return DONE;
+}
+
+static uint32_t number_at(const uint8_t *octets)
+{
+    return (uint32_t)octets[0] << 8 | octets[1];
+}
+
+/* The packets that come out are the upload's next ones. A frame that is refused or a repeat gives none. */
+static void take_frame(struct upload *upload, const uint8_t *header, const uint8_t *field, size_t length)
+{
+    struct frame_file *frames = &upload->frames;
+    const uint32_t count = number_at(header), pointer = number_at(header + 2);
+    const struct branmuslin_framed framed = branmuslin_take_frame(frames->state, count, pointer, field, length, frames->piece, sizeof frames->piece,
+                                                                  frames->packets, sizeof frames->packets);
+    frames->state = framed.state;
+    upload->octets = frames->packets;
+    upload->length = framed.octets;
+    upload->at = 0;
+    if (framed.kind != BRANMUSLIN_FRAME_REFUSED)
+        return;
+    printf("%s%zu frame %lu refused %u %s\n", upload->front, frames->at, (unsigned long)count, (unsigned)framed.refusal, cause_of_28(count, length));
+    upload->refused++;
+}
+
+/* Nothing says where the frame after one that is cut off begins: that one is the last. */
+static int next_frame(struct intake *intake, struct upload *upload)
+{
+    struct frame_file *frames = &upload->frames;
+    uint8_t header[FRAME_HEADER];
+    size_t read = fread(header, 1, sizeof header, frames->file), length = 0;
+    if (read == sizeof header) {
+        length = number_at(header + 4);
+        read += fread(intake->field, 1, length, frames->file);
+    }
+    if (ferror(frames->file))
+        return fail("can't read", upload->path);
+    frames->at = frames->next;
+    frames->next += read;
+    if (read == sizeof header + length) {
+        take_frame(upload, header, intake->field, length);
+        return DONE;
+    }
+    frames->ended = true;
+    if (read > 0) {
+        printf("%s%zu bad the frame is cut off; the upload ends here, with octets left: %zu\n", upload->front, frames->at, read);
+        upload->refused++;
+    }
+    return DONE;
+}
+
+/* Of a frame file, frames are read until packets come out, or there is none left. */
+static int find_packet(struct intake *intake, struct upload *upload)
+{
+    while (upload->at == upload->length && !upload->frames.ended)
+        if (next_frame(intake, upload) != DONE)
+            return FAILED;
+    return DONE;
 }
 
 /* The next packet is read first to see where it ends, since a lane is given one packet and not an octet more. */
@@ -225,7 +333,10 @@ static int serve(struct intake *intake)
     do {
         more = false;
         for (size_t lane = 0; lane < intake->lanes; lane++) {
-            if (intake->uploads[lane].at == intake->uploads[lane].length)
+            struct upload *upload = &intake->uploads[lane];
+            if (find_packet(intake, upload) != DONE)
+                return FAILED;
+            if (upload->at == upload->length)
                 continue;
             more = true;
             if (take_next(intake, lane) != DONE)
@@ -271,6 +382,23 @@ static void print_tallies(const struct intake *intake)
     }
 }
 
+static int open_upload(struct upload *upload, bool framed)
+{
+    upload->frames.ended = true;
+    if (framed)
+        return open_frames(upload);
+    const int status = read_file(upload->path, &upload->whole, &upload->length);
+    upload->octets = upload->whole;
+    return status;
+}
+
+static void close_upload(struct upload *upload)
+{
+    free(upload->whole);
+    if (upload->frames.file)
+        fclose(upload->frames.file);
+}
+
 static int run(struct intake *intake)
 {
     int status = DONE;
@@ -278,7 +406,7 @@ static int run(struct intake *intake)
         struct upload *upload = &intake->uploads[lane];
         if (intake->lanes > 1)
             snprintf(upload->front, sizeof upload->front, "%u ", (unsigned)lane % 10);
-        status = read_file(upload->path, &upload->octets, &upload->length);
+        status = open_upload(upload, intake->framed);
     }
     if (status == DONE)
         status = serve(intake);
@@ -289,7 +417,7 @@ static int run(struct intake *intake)
     if ((fflush(stdout) != 0 || ferror(stdout)) && status == DONE)
         status = fail("can't write", "standard output");
     for (size_t lane = 0; lane < intake->lanes; lane++)
-        free(intake->uploads[lane].octets);
+        close_upload(&intake->uploads[lane]);
     return status;
 }
 
@@ -344,21 +472,31 @@ static bool parse_uploads(char **argv, struct intake *intake)
     return true;
 }
 
+/* The options, which come before the uploads. Returns where these begin. */
+static char **parse_options(char **argv, struct intake *intake)
+{
+    for (;; argv++) {
+        const char **path = NULL;
+        if (*argv && strcmp(*argv, "--units") == 0)
+            path = &intake->units_to;
+        else if (*argv && strcmp(*argv, "--records") == 0)
+            path = &intake->records_to;
+        else if (*argv && strcmp(*argv, "--frames") == 0)
+            intake->framed = true;
+        else
+            return argv;
+        if (path && !(*path = *++argv))
+            return argv;
+    }
+}
+
 int main(int argc, char **argv)
 {
     static struct intake intake;
-    int at = 1;
-    for (; at + 1 < argc && strncmp(argv[at], "--", 2) == 0; at += 2) {
-        if (strcmp(argv[at], "--units") == 0)
-            intake.units_to = argv[at + 1];
-        else if (strcmp(argv[at], "--records") == 0)
-            intake.records_to = argv[at + 1];
-        else
-            break;
-    }
-    if (at >= argc || argv[at][0] == '-') {
-        fputs("usage: intake [--units DIR] [--records FILE] STATION:APID:SECONDARY:SHARE:CAP:UPLOAD ...\n", stderr);
+    char **uploads = argc > 0 ? parse_options(argv + 1, &intake) : argv;
+    if (!*uploads || (*uploads)[0] == '-') {
+        fputs("usage: intake [--units DIR] [--records FILE] [--frames] STATION:APID:SECONDARY:SHARE:CAP:UPLOAD ...\n", stderr);
         return WRONG_CALL;
     }
-    return parse_uploads(argv + at, &intake) ? run(&intake) : WRONG_CALL;
+    return parse_uploads(uploads, &intake) ? run(&intake) : WRONG_CALL;
 }

@@ -1,6 +1,6 @@
 /*
- * branmuslin.h: reads and writes CCSDS Space Packets (133.0-B-2), Encapsulation Packets (133.1-B-2) and credit records, and joins grouped
- * packets into whole units for up to eight lanes that share one pool of memory.
+ * branmuslin.h: reads and writes CCSDS Space Packets (133.0-B-2), Encapsulation Packets (133.1-B-2) and credit records, joins grouped
+ * packets into whole units for up to eight lanes that share one pool of memory, and takes packets out of frame recordings (102.0-B-5).
  *
  * A static library for Linux on x86-64, for programs and shared objects; the flags stand after the source files:
  * cc program.c $(pkg-config --cflags --libs branmuslin). It needs nothing but memcpy, memmove and memset, allocates nothing and keeps nothing between calls: the state
@@ -30,7 +30,7 @@
 extern "C" {
 #endif
 
-#define BRANMUSLIN_RELEASE "0.3.0"
+#define BRANMUSLIN_RELEASE "0.4.0"
 
 /* The compiler warns of a null that it sees. */
 #ifdef __GNUC__
@@ -51,7 +51,7 @@ enum {
     BRANMUSLIN_NAMES_NOTHING = 7,  /* protocol ID 6 in a header of 1 or 2 octets; or an extension that is not 0 with another ID; or a
                                       CCSDS field that is not 0 */
     BRANMUSLIN_OVER_WIDTH = 8,     /* a field given to a packet's writer is over its width */
-    BRANMUSLIN_NO_ROOM = 9,        /* the output is too short for the packet or record */
+    BRANMUSLIN_NO_ROOM = 9,        /* the output is too short for the packet or record, or has fewer than 10,238 octets for a frame */
     BRANMUSLIN_DATA_LENGTH = 10,   /* data to write: none, or over 65,536 octets (Space); a packet over 65,542 octets (Encapsulation) */
     BRANMUSLIN_NOT_OPEN = 11,      /* the lane number is over 7, or the lane is not open (except at opening) */
     BRANMUSLIN_OCTETS_AFTER = 12,  /* octets after the packet */
@@ -69,8 +69,10 @@ enum {
     BRANMUSLIN_NOT_SOUND = 24,     /* the state is not sound, or the pool does not have 16,384 octets */
     BRANMUSLIN_NOT_POSSIBLE = 25,  /* the record is not possible */
     BRANMUSLIN_NOT_RECORDS = 26,   /* a record file that is not a multiple of 20 octets, or a single record that is not 20 */
-    BRANMUSLIN_OTHERS_IN_THE_WAY = 27 /* no room in the pool: the group is within the lane's cap, but what it and the other lanes hold or are promised
+    BRANMUSLIN_OTHERS_IN_THE_WAY = 27, /* no room in the pool: the group is within the lane's cap, but what it and the other lanes hold or are promised
                                          would exceed 64 blocks; the other lanes are in the way, and the packet may fit later */
+    BRANMUSLIN_BAD_FRAME = 28      /* a field that has not 8 to 2,046 octets, a piece buffer that has not 8,192, a count over 255, a pointer that is an offset at
+                                      or past the field's end, or a state whose piece is over 8,191 octets */
 };
 
 /* The version of either kind of packet, the sequence flags of a Space Packet, and the APID of idle ones. */
@@ -324,6 +326,75 @@ struct branmuslin_answer branmuslin_take_packet(struct branmuslin_state state, s
  */
 struct branmuslin_change branmuslin_close_lane(struct branmuslin_state state, size_t lane, const uint8_t *pool, size_t pool_length, uint8_t *output,
                                                size_t output_length) BRANMUSLIN_NOT_NULL;
+
+/*
+ * Frames. A frame recording is a run of transfer frame data fields (CCSDS 102.0-B-5), in which the packets lie one after another and across the fields. Each
+ * field comes with its virtual channel frame count, 0 to 255, and its first header pointer: the offset at which the first packet begins that begins in this field, 2047
+ * if none begins in it, 2046 if it has idle data only. A packet that goes on in the next frame is kept in a buffer that you lend: the piece.
+ *
+ *     static uint8_t piece[BRANMUSLIN_PIECE_LENGTH], packets[BRANMUSLIN_FRAME_OUTPUT];
+ *     struct branmuslin_frames state = branmuslin_fresh_frames();
+ *     for (each frame) {
+ *         struct branmuslin_framed framed = branmuslin_take_frame(state, count, pointer, field, n, piece, sizeof piece, packets, sizeof packets);
+ *         state = framed.state;
+ *         use(packets, framed.octets);  (framed.packets packets, one after another)
+ *     }
+ *
+ * A recording of one virtual channel needs a state and a buffer of its own. Packets of at most 8,192 octets come out; where frames were lost, never more than 254 in a
+ * row, just those come out that lie wholly in received frames, each once and in order.
+ */
+#define BRANMUSLIN_SHORTEST_FIELD 8
+#define BRANMUSLIN_LONGEST_FIELD 2046
+#define BRANMUSLIN_PIECE_LENGTH 8192
+#define BRANMUSLIN_FRAME_OUTPUT 10238
+#define BRANMUSLIN_LONGEST_FRAMED 8192 /* the longest packet that comes out */
+
+/* The first header pointers that are no offsets. */
+enum { BRANMUSLIN_IDLE_ONLY = 2046, BRANMUSLIN_NO_PACKET = 2047 };
+
+/*
+ * What the frames before left. Hand each call the state that the last one gave back, with the buffer as that call left it. The bool must be one that C made, 0 or 1
+ * in memory.
+ */
+struct branmuslin_frames {
+    bool started;       /* whether a frame came before */
+    uint8_t count;      /* its count */
+    size_t piece;       /* octets of the piece, at the front of the buffer */
+};
+
+/* What a frame is answered. */
+enum { BRANMUSLIN_FRAME_REFUSED = 0, BRANMUSLIN_FRAME_REPEAT = 1, BRANMUSLIN_FRAME_TAKEN = 2 };
+
+struct branmuslin_framed {
+    uint8_t refusal;    /* 0, or the number of the refusal */
+    uint8_t kind;       /* refused; a repeat of the frame before; taken */
+    bool given_up;      /* whether a piece of at least one octet was given up */
+    bool dropped;       /* whether the rest of the field was dropped */
+    size_t packets;     /* how many packets came out; 0 for every other kind */
+    size_t octets;      /* their octets, at the front of the output */
+    struct branmuslin_frames state;
+};
+
+/* No piece and no previous frame. Refuses nothing. What lies in the buffer then does not matter. */
+struct branmuslin_frames branmuslin_fresh_frames(void);
+
+/*
+ * Takes one frame: its count, its first header pointer and its data field. count and pointer are wider than their fields, so that none is cut to them without a word.
+ *
+ * - A frame with the count of the frame before is a repeat and changes nothing. Every other frame that is not refused becomes the frame before.
+ * - The piece goes on where the count is that of the frame before plus 1, mod 256, (or no frame came before,) and the pointer is not 2046 and does not contradict: the
+ *   piece and the octets before the pointer (with 2047: the field) must be exactly one packet of at most 8,192 octets, which then comes out; or, with 2047, the beginning
+ *   of one, which is then the longer piece. Else the piece is given up. With no piece every pointer but 0 contradicts, and there is nothing to give up.
+ * - Reading resumes at the pointer; with 2046 and 2047 there is nothing to read. Whole packets come out, idle ones too. An unfinished one at the end is the new
+ *   piece. A packet that branmuslin_read_packet refuses for anything but being unfinished, or one over 8,192 octets, drops the rest of the field, and there is no piece.
+ * - The output has the packets at its front, the buffer the new piece; every other octet of both stays as it was.
+ *
+ * 102.0-B-5 lets idle-only frames stand inside a packet that goes on after them; here such a frame gives the packet up.
+ *
+ * Refusals, in this order, which change nothing: 28, 9 (the output has fewer than 10,238 octets).
+ */
+struct branmuslin_framed branmuslin_take_frame(struct branmuslin_frames state, uint32_t count, uint32_t pointer, const uint8_t *field, size_t field_length,
+                                               uint8_t *piece, size_t piece_length, uint8_t *output, size_t output_length) BRANMUSLIN_NOT_NULL;
 
 #ifdef __cplusplus
 }

@@ -10,8 +10,10 @@ refuses() {
 
 helps() {
     ./branmuslin help >"$work/out" && grep -q 'list \[FILE\]' "$work/out" && grep -q 'replay \[FILE\]' "$work/out" &&
-        grep -q 'credit --station N --apid N --secondary N --share N --cap N FILE' "$work/out" && ./branmuslin list --help | cmp - "$work/out" &&
-        ./branmuslin replay -h | cmp - "$work/out" && ./branmuslin credit -h | cmp - "$work/out" && ./branmuslin credit --cap 1 --help | cmp - "$work/out"
+        grep -qF 'frames [--packets OUT] [FILE]' "$work/out" &&
+        grep -qF 'credit [--frames] --station N --apid N --secondary N --share N --cap N FILE' "$work/out" && ./branmuslin list --help | cmp - "$work/out" &&
+        ./branmuslin replay -h | cmp - "$work/out" && ./branmuslin credit -h | cmp - "$work/out" && ./branmuslin credit --cap 1 --help | cmp - "$work/out" &&
+        ./branmuslin frames -h | cmp - "$work/out" && ./branmuslin frames --packets "$work/unwritten" --help | cmp - "$work/out" && [ ! -e "$work/unwritten" ]
 }
 
 lists_sample() { ./branmuslin list samples/paper.bin | cmp - samples/paper.txt; }
@@ -19,6 +21,47 @@ lists_sample() { ./branmuslin list samples/paper.bin | cmp - samples/paper.txt; 
 replays_sample() {
     ./branmuslin replay samples/lanes.run >"$work/out" && cmp "$work/out" samples/lanes.txt &&
         ./branmuslin replay <samples/lanes.run >"$work/out" && cmp "$work/out" samples/lanes.txt
+}
+
+frames_sample() {
+    ./branmuslin frames samples/pass.frames >"$work/out" && cmp "$work/out" samples/pass.txt &&
+        ./branmuslin frames <samples/pass.frames >"$work/out" && cmp "$work/out" samples/pass.txt
+}
+
+# The text is the same with the packets; these are listed as any recording. What OUT had before is gone.
+writes_packets() {
+    cp samples/every.bin "$work/packets" && ./branmuslin frames --packets "$work/packets" samples/pass.frames | cmp - samples/pass.txt &&
+        ./branmuslin list "$work/packets" | diff <(printf '%s\n' '0 encap 0 0 1 0' '1 space 42 3 5 18' '25 encap 2 0 2 3' '30 space 42 3 7 2' '38 encap 0 0 2 0' \
+            '40 encap 0 0 1 0' '41 encap 0 0 1 0' '42 encap 0 0 1 0' 'end 43 8') - &&
+        ./branmuslin frames --packets "$work/a name" <samples/pass.frames | cmp - samples/pass.txt && cmp "$work/packets" "$work/a name" &&
+        (cd "$work" && "$OLDPWD/branmuslin" frames --packets -y -- "$OLDPWD/samples/pass.frames") | cmp - samples/pass.txt && cmp "$work/packets" "$work/-y"
+}
+
+# A file that is too long is not taken at all, also by its packets.
+frames_too_long() {
+    head -c 1048577 /dev/zero >"$work/long.frames" && ./branmuslin frames --packets "$work/packets" "$work/long.frames" >"$work/out" &&
+        [ "$(cat "$work/out")" = 'too long' ] && [ -e "$work/packets" ] && [ ! -s "$work/packets" ]
+}
+
+# packets_fail TEXT OUT [FILE]: one line with the text is told on standard error, and the status is 1.
+packets_fail() {
+    local text=$1 status
+    shift
+    ./branmuslin frames --packets "$@" >"$work/out" 2>"$work/err" <samples/pass.frames
+    status=$?
+    cat "$work/err"
+    [ "$status" -eq 1 ] && [ "$(wc -l <"$work/err")" -eq 1 ] && grep -qF -- "$text" "$work/err"
+}
+
+# A bad OUT is told before anything is made, and the frame file is never written over, by whatever name.
+bad_packets() {
+    cp samples/pass.frames "$work/pass.frames" && ln -sf pass.frames "$work/link" && packets_fail "this is a folder, not a file: $work" "$work" samples/pass.frames &&
+        packets_fail "this file can't be written: $work/nowhere/out" "$work/nowhere/out" samples/pass.frames &&
+        packets_fail "this file can't be written: $work/pass.frames/out" "$work/pass.frames/out" samples/pass.frames &&
+        packets_fail 'the packets would overwrite the frame file: ' "$work/pass.frames" "$work/pass.frames" &&
+        packets_fail 'the packets would overwrite the frame file: ' "$work/link" "$work/pass.frames" && cmp samples/pass.frames "$work/pass.frames" &&
+        ! ./branmuslin frames --packets "$work/pass.frames" <"$work/pass.frames" >"$work/out" 2>&1 && cmp samples/pass.frames "$work/pass.frames" &&
+        packets_fail "no such file: nowhere" "$work/unwritten" nowhere && [ ! -e "$work/unwritten" ] && packets_fail branmuslin: /dev/full
 }
 
 settings=(--station 7 --apid 42 --secondary 0 --share 1 --cap 2)
@@ -37,6 +80,20 @@ credits_samples() {
 units 1 packets 1 missing 0 broken 0 repeats 0 refused 3" "${settings[@]}" samples/paper.bin &&
         ./branmuslin credit --cap 2 --share 1 --secondary 6 --apid 100 --station 65535 samples/every.bin >"$work/out" &&
         [ "$(tail -n 1 "$work/out")" = 'units 1 packets 1 missing 0 broken 0 repeats 0 refused 18' ]
+}
+
+# One command from a frame recording to the credit. --frames may stand anywhere before the file.
+credits_frames() {
+    local lines="0 refused 13 an Encapsulation Packet is sent to a lane
+28 refused 13 an Encapsulation Packet is sent to a lane
+103 refused 13 an Encapsulation Packet is sent to a lane
+117 frame 5 refused 28 the first header pointer is an offset at or past the field's end
+145 refused 13 an Encapsulation Packet is sent to a lane
+145 refused 13 an Encapsulation Packet is sent to a lane
+145 refused 13 an Encapsulation Packet is sent to a lane
+units 2 packets 2 missing 1 broken 0 repeats 0 refused 7"
+    credit_prints "$lines" --frames "${settings[@]}" samples/pass.frames && credit_prints "$lines" "${settings[@]}" --frames -- samples/pass.frames &&
+        credit_prints "$lines" --station 7 --frames "${settings[@]:2}" samples/pass.frames
 }
 
 # Settings that the library refuses are told as it tells them.
@@ -147,10 +204,11 @@ check 'branmuslin help' helps
 # The first run of a word builds it, and says so in a line; so these come before what counts lines.
 check 'branmuslin list: samples/paper.bin' lists_sample
 check 'branmuslin replay: samples/lanes.run' replays_sample
+check 'branmuslin frames: samples/pass.frames' frames_sample
 check 'branmuslin credit: the samples' credits_samples
 check 'branmuslin: no word' refuses 'which word' ./branmuslin
 check 'branmuslin: an unknown word' refuses "unknown word 'lits'" ./branmuslin lits
-for word in list replay; do
+for word in list replay frames; do
     check "branmuslin $word: an unknown option" refuses "unknown option '-x'" ./branmuslin "$word" -x
     check "branmuslin $word: a missing file" refuses 'no such file: nowhere' ./branmuslin "$word" nowhere
     check "branmuslin $word: a folder" refuses 'folder' ./branmuslin "$word" samples
@@ -158,6 +216,12 @@ for word in list replay; do
     check "branmuslin $word: an output that is full" full_output "$word"
     check "branmuslin $word: a folder as standard input" folder_as_input "$word"
 done
+check 'branmuslin frames: the packets' writes_packets
+check 'branmuslin frames: a file that is too long' frames_too_long
+check 'branmuslin frames: packets that cannot be written' bad_packets
+check 'branmuslin frames: no file after --packets' refuses '--packets needs a file after it' ./branmuslin frames --packets
+check 'branmuslin frames: an unknown option after --packets' refuses "unknown option '-x'" ./branmuslin frames --packets "$work/unwritten" -x
+check 'branmuslin credit: a frame file' credits_frames
 check 'branmuslin credit: settings that are missing or no numbers' credit_settings
 check 'branmuslin credit: settings that the library refuses' credits_nothing
 check 'branmuslin credit: an unknown option' refuses "unknown option '-x'" ./branmuslin credit "${settings[@]}" -x

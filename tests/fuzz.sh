@@ -14,7 +14,7 @@ fuzz_seeds() {
     for seed in "$work"/seeds/*; do
         cmp "$seed" "tests/fuzz/corpus/${seed##*/}" || return
     done
-    [ "$(find tests/fuzz/corpus -type f | wc -l)" -le 60 ] && [ "$(cat tests/fuzz/corpus/* | wc -c)" -lt 100000 ]
+    [ "$(find tests/fuzz/corpus -type f | wc -l)" -le 80 ] && [ "$(cat tests/fuzz/corpus/* | wc -c)" -lt 100000 ]
 }
 
 # The faults are named in tests/fuzz/wrong.c; with none of them, the wrapped library passes.
@@ -22,7 +22,7 @@ fuzz_finds_faults() {
     local fault wraps faults
     mapfile -t wraps < <(sed -n 's/^WRAPPED([a-z0-9_]*, \([a-z_]*\),.*/-Wl,--wrap=branmuslin_\1/p' tests/fuzz/wrong.c)
     mapfile -t faults < <(grep -o 'wrong("[^"]*' tests/fuzz/wrong.c | cut -d '"' -f 2)
-    [ "${#wraps[@]}" -eq 11 ] && [ "${#faults[@]}" -ge 48 ] &&
+    [ "${#wraps[@]}" -eq 13 ] && [ "${#faults[@]}" -ge 64 ] &&
         "${CC:-cc}" "${fuzz_flags[@]}" "${fuzz_sources[@]}" tests/fuzz/wrong.c "$fuzz_archive" "${wraps[@]}" -o "$work/fuzz-wrong" &&
         "$work/fuzz-wrong" tests/fuzz/corpus/* || return
     for fault in "${faults[@]}"; do

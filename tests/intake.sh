@@ -7,6 +7,7 @@ builds_intake() {
     "$cc" -std=c99 -pedantic -Wconversion "${strict[@]}" -O2 -Iinclude examples/intake.c "$archive" -o "$work/intake-plain" &&
         "$cc" -std=c99 -pedantic -Wconversion "${strict[@]}" "${sanitized[@]}" -Iinclude examples/intake.c "$archive" -o "$work/intake" &&
         "$cc" -std=c99 "${strict[@]}" -O1 tests/intake/uploads.c -o "$work/make-uploads" &&
+        "$cc" -std=c99 "${strict[@]}" -O1 tests/intake/frames.c -o "$work/make-frames" &&
         "$cc" -std=c99 "${strict[@]}" -Iinclude tests/intake/records.c "$archive" -o "$work/read-records"
 }
 
@@ -178,8 +179,117 @@ credits_alike() {
     grep -qE ' units [1-9][0-9]* packets [1-9][0-9]* missing [1-9][0-9]* broken [1-9][0-9]* repeats [1-9]' "$work/all-lanes"
 }
 
+# frame COUNT POINTER OCTETS: a frame of a frame file; its octets are given as \xAB each, and told so.
+frame() {
+    printf '\\x%02X\\x%02X\\x%02X\\x%02X\\x%02X\\x%02X%s' $(($1 / 256)) $(($1 % 256)) $(($2 / 256)) $(($2 % 256)) $((${#3} / 1024)) $((${#3} / 4 % 256)) "$3"
+}
+
+# octets NUMBER OCTET: the octet so often.
+octets() { printf "\\\\$2%.0s" $(seq "$1"); }
+
+# A packet over three frames, a repeat, a lost frame, an idle-only one, a rest that is dropped, and a frame that is refused.
+takes_frame_sample() {
+    intake_prints "0 refused 13 $(cause_of 13)
+28 refused 13 $(cause_of 13)
+103 refused 13 $(cause_of 13)
+117 frame 5 refused 28 the first header pointer is an offset at or past the field's end
+145 refused 13 $(cause_of 13)
+145 refused 13 $(cause_of 13)
+145 refused 13 $(cause_of 13)
+units 2 packets 2 missing 1 broken 0 repeats 0 refused 7
+" --frames --units "$uploads/units" --records "$work/records" 7:42:0:1:2:samples/pass.frames &&
+        has_records '7 42 units 2 packets 2 missing 1 broken 0' && cmp "$uploads/units/0-0.unit" <(printf '%b' "\\x$(printf '%02X\\x' {1..17})12") &&
+        cmp "$uploads/units/0-1.unit" <(printf '\xAA\xBB') && has_units 0-0.unit 0-1.unit
+}
+
+# bad_frame WORDS COUNT POINTER OCTETS: the frame is refused with these words, and the next one is taken.
+bad_frame() {
+    local good
+    good=$(frame 5 0 '\x00\x2A\xC0\x05\x00\x01\xAA\xBB')
+    upload a "$good$(frame "$2" "$3" "$4")$(frame 6 0 '\x00\x2A\xC0\x06\x00\x01\xCC\xDD')" && intake_prints "14 frame $2 refused 28 $1
+units 2 packets 2 missing 0 broken 0 repeats 0 refused 1
+" --frames "7:42:0:0:1:$uploads/a"
+}
+
+says_bad_frame() {
+    local field='the field has not 8 to 2,046 octets' pointer="the first header pointer is an offset at or past the field's end"
+    bad_frame "$field" 6 2047 '' && bad_frame "$field" 6 2047 "$(octets 7 xE0)" && bad_frame "$field" 6 2046 "$(octets 2047 xE0)" &&
+        bad_frame "$field" 256 2048 "$(octets 7 xE0)" && bad_frame 'the count is over 255' 256 0 "$(octets 8 xE0)" &&
+        bad_frame 'the count is over 255' 65535 2048 "$(octets 8 xE0)" && bad_frame "$pointer" 6 8 "$(octets 8 xE0)" &&
+        bad_frame "$pointer" 6 65535 "$(octets 2046 xE0)" && bad_frame "$pointer" 5 2048 "$(octets 8 xE0)"
+}
+
+# Wherever a frame is cut off, in its header or its field. What came out before is credited.
+says_cut_off() {
+    local whole n
+    whole=$(frame 5 0 '\x00\x2A\xC0\x05\x00\x01\xAA\xBB')$(frame 6 0 '\x00\x2A\xC0\x06\x00\x01\xCC\xDD')
+    for n in {1..13}; do
+        printf '%b' "$whole" | head -c $((14 + n)) >"$uploads/a" && intake_prints "14 bad the frame is cut off; the upload ends here, with octets left: $n
+units 1 packets 1 missing 0 broken 0 repeats 0 refused 1
+" --frames "7:42:0:0:1:$uploads/a" || return
+    done
+    intake_prints $'units 0 packets 0 missing 0 broken 0 repeats 0 refused 0\n' --frames 7:42:0:0:1:/dev/null
+}
+
+# Each packet that a lane refuses is told with the frame in which it ends, also where it begins in another; the uploads are served in turn.
+takes_frames_in_turn() {
+    upload a "$(frame 255 0 '\xE0\x00\x2B\xC0\x00\x00\x00')$(frame 0 1 '\x55\xE0\xE0\xE0\xE0\xE0\x00\x2A\xC0')$(frame 1 5 '\x05\x00\x01\xAA\xBB\xE0\xE0\xE0')" &&
+        upload b "$(frame 9 0 '\x00\x2A\xC0\x05\x00\x01\xAA\xBB')" && printf '\x07\xFF' >>"$uploads/b" && intake_prints "0 0 frame 255 refused 28 the field has not 8 to 2,046 octets
+0 13 refused 13 $(cause_of 13)
+0 13 refused 13 $(cause_of 13)
+1 14 bad the frame is cut off; the upload ends here, with octets left: 2
+0 13 refused 13 $(cause_of 13)
+0 13 refused 13 $(cause_of 13)
+0 13 refused 13 $(cause_of 13)
+0 28 refused 13 $(cause_of 13)
+0 28 refused 13 $(cause_of 13)
+0 28 refused 13 $(cause_of 13)
+0 units 1 packets 1 missing 0 broken 0 repeats 0 refused 9
+1 units 1 packets 1 missing 0 broken 0 repeats 0 refused 1
+" --frames "1:42:0:0:1:$uploads/a" "2:42:0:0:1:$uploads/b"
+}
+
+# A longer file than the program `deframe` takes, and more packets than a lane does: the tallies are those of the packets.
+credits_long_frames() {
+    local lane settings
+    lane=$("$work/make-uploads" long "$uploads") && settings=${lane%"$uploads/0"} && "$work/make-frames" whole <"$uploads/0" >"$uploads/frames" &&
+        [ "$(wc -c <"$uploads/frames")" -gt 1048576 ] && "$work/intake-plain" --frames --records "$work/records" "$settings$uploads/frames" >"$work/out" &&
+        [ "$(tail -n 1 "$work/out")" = 'units 262144 packets 262144 missing 0 broken 0 repeats 1 refused 2' ] && "$second" credit "$lane" | cmp - "$work/records"
+}
+
+# framed_alike SEED: frame files of eight generated uploads, with frames that are lost, repeated or wrong. The records are those that the second program
+# gives for the packets that it takes out of them.
+framed_alike() {
+    local lane path
+    local -a lanes framed=() packets=()
+    mapfile -t lanes < <("$work/make-uploads" "$1" "$uploads") && [ "${#lanes[@]}" -eq 8 ] || return
+    for lane in "${lanes[@]}"; do
+        path=${lane#*:*:*:*:*:}
+        "$work/make-frames" "$1" <"$path" >"$path.frames" && "$second" packets <"$path.frames" >"$path.packets" &&
+            "$second" frames <"$path.frames" >>"$work/all-frames" || return
+        framed+=("$lane.frames") packets+=("$lane.packets")
+    done
+    "$work/intake" --frames --records "$work/records" "${framed[@]}" >"$work/out" && "$work/intake-plain" --frames "${framed[@]}" | cmp - "$work/out" &&
+        "$second" credit "${packets[@]}" | cmp - "$work/records" &&
+        diff <(sed -n 's/^\([0-7] units .*\) refused .*/\1/p' "$work/out") <("$work/intake-plain" "${packets[@]}" | sed -n 's/^\([0-7] units .*\) refused .*/\1/p')
+}
+
+frames_alike() {
+    local seed flags
+    : >"$work/all-frames"
+    for seed in {1..15}; do
+        framed_alike "$seed" || { echo "seed $seed" && return 1; }
+    done
+    # Something of every kind was met.
+    for flags in '0 0' '0 1' '1 0' '1 1'; do
+        grep -qE " taken [1-9][0-9]* [0-9]+ $flags " "$work/all-frames" || { echo "taken with $flags was not met" && return 1; }
+    done
+    grep -q ' refused 28$' "$work/all-frames" && grep -q ' repeat$' "$work/all-frames"
+}
+
 intake_usage() {
-    intake_fails 2 'usage: intake [--units DIR]' && intake_fails 2 'usage: ' --units && intake_fails 2 'usage: ' --records "$work/records" &&
+    intake_fails 2 'usage: intake [--units DIR] [--records FILE] [--frames]' && intake_fails 2 'usage: ' --units && intake_fails 2 'usage: ' --frames &&
+        intake_fails 2 'usage: ' --frames --units && intake_fails 2 'usage: ' --records "$work/records" &&
         intake_fails 2 'usage: ' --unit "$work" 7:42:0:1:1:/dev/null && intake_fails 2 'usage: ' -h &&
         intake_fails 2 "SECONDARY:SHARE:CAP:UPLOAD, not '7:42:0:1:1'" 7:42:0:1:1 && intake_fails 2 "not ''" '' &&
         intake_fails 2 'eight lanes' 7:42:0:{1..9}:9:/dev/null
@@ -209,7 +319,9 @@ intake_paths() {
 
 intake_unreadable() {
     intake_fails 1 "can't read $work/nowhere: " --records "$work/unwritten" 7:42:0:1:1:samples/paper.bin "7:42:0:1:1:$work/nowhere" &&
-        intake_fails 1 "can't read samples: " --records "$work/unwritten" 7:42:0:1:1:samples && [ ! -e "$work/unwritten" ]
+        intake_fails 1 "can't read samples: " --records "$work/unwritten" 7:42:0:1:1:samples &&
+        intake_fails 1 "can't read $work/nowhere: " --frames --records "$work/unwritten" 7:42:0:1:1:samples/pass.frames "7:42:0:1:1:$work/nowhere" &&
+        intake_fails 1 "can't read samples: " --records "$work/unwritten" --frames 7:42:0:1:1:samples && [ ! -e "$work/unwritten" ]
 }
 
 # no_success TEXT ARGUMENT..: a file can't be written, and no tallies are told.
@@ -253,6 +365,12 @@ check "intake: whose fault no room is, the lane's own or the others', in words" 
 check 'intake: lanes that are not opened, in words' says_not_opened
 check 'intake: more packets than a lane takes' full_lane
 check 'intake: generated uploads are credited as by the second program' credits_alike
+check 'intake: samples/pass.frames, and its units' takes_frame_sample
+check 'intake: frames that are refused, in words' says_bad_frame
+check 'intake: a frame that is cut off' says_cut_off
+check 'intake: frame files in turn' takes_frames_in_turn
+check 'intake: a long frame file' credits_long_frames
+check 'intake: generated frame files are credited as by the second program' frames_alike
 check 'intake: a wrong call' intake_usage
 check 'intake: numbers out of their range' intake_numbers
 check 'intake: paths with colons, and the records over an upload' intake_paths

@@ -60,7 +60,7 @@ installed_flags() {
     flags+=(-Wl,--fatal-warnings)
 }
 
-version_is_told() { [ "$(PKG_CONFIG_PATH=$prefix/lib/pkgconfig pkg-config --modversion branmuslin)" = 0.3.0 ]; }
+version_is_told() { [ "$(PKG_CONFIG_PATH=$prefix/lib/pkgconfig pkg-config --modversion branmuslin)" = 0.4.0 ]; }
 
 c_tests() {
     installed_flags && "$cc" -std=c11 "${strict[@]}" "${sanitized[@]}" tests/c/*.c -o "$work/c-tests" "${flags[@]}" &&

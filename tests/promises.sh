@@ -58,7 +58,7 @@ theorems() { awk -F'`' '/^\| `[^`|]+ : [^`|]+`/ { print ($3 == " | " ? $4 : "?")
 
 # A theorem stands in its file with just that statement, and the file is one that the checker reads; that rt ci accepted the crate then says that it is
 # proved. Nothing else in the repository needs to use a theorem, so rt ci alone accepts the crate as well when the theorem is deleted. The three demands, that
-# the runs of demand 2 and 3 are the code's, whose fault no room is and which octet is wrong must be listed: else the table could be emptied.
+# the runs of demand 2 and 3 are the code's, whose fault no room is, which octet is wrong and whole frame recordings must be listed: else the table could be emptied.
 every_theorem_is_there() {
     local file theorem module needed bad=0
     while read -r file theorem; do
@@ -67,7 +67,7 @@ every_theorem_is_there() {
         grep -qxF "pub mod ${module%.antt}" "crates/${file%%/*}/proofs/Lib.antt" || { echo "proofs/Lib.antt does not declare $file"; bad=1; }
     done < <(theorems)
     for needed in 'demand1 : Demand1' 'demand2 : Demand2' 'demand3 : Demand3' 'runs-are-the-codes : RunsAreTheCodes' 'whose-fault : WhoseFault' \
-        'which-octet : WhichOctet'; do
+        'which-octet : WhichOctet' 'whole-frames : WholeFrames'; do
         theorems | grep -E "^[^ ]+ $needed( |\$)" || { echo "docs/DEMANDS.md does not list $needed"; bad=1; }
     done
     return "$bad"
@@ -111,11 +111,11 @@ stated_edits() {
         /^\| `[a-z]+::/ { print quoted($2, 1), quoted($3, 1), quoted($4, 1), quoted($4, 2) }' docs/DEMANDS.md
 }
 
-# demanded_fields: crate::Record.field for each part of the demands, of what demand 1 asks of every entry, and of the laws of 19 and 27 and of the place;
+# demanded_fields: crate::Record.field for each part of the demands, of what demand 1 asks of every entry, and of the laws of 19 and 27, of the place and of frames;
 # a record is looked for in every crate, and one that isn't found is printed, since it would else have no part that lacks a row.
 demanded_fields() {
     local record
-    for record in Demand1 Demand2 Demand3 Asked WhoseFault WhichOctet; do
+    for record in Demand1 Demand2 Demand3 Asked WhoseFault WhichOctet WholeFrames; do
         awk -v record="$record" '
             FNR == 1 || /^[^ ]/ { inside = $0 ~ "^pub record " record "[ :]"; split(FILENAME, part, "/") }
             inside && /^  [^ -].* :( |$)/ { sub(/ :( .*)?$/, ""); sub(/^  (pub )?/, ""); for (i = 1; i <= NF; i++) print part[2] "::" record "." $i; found = 1 }
@@ -125,7 +125,7 @@ demanded_fields() {
 
 # A part that no wrong statement is listed for might say nothing; a row for a part that isn't there says nothing of any.
 every_field_has_a_wrong_statement() {
-    diff <(demanded_fields | sort -u) <(stated_edits | awk '$1 ~ /::(Demand[123]|Asked|WhoseFault|WhichOctet)\./ { print $1 }' | sort -u)
+    diff <(demanded_fields | sort -u) <(stated_edits | awk '$1 ~ /::(Demand[123]|Asked|WhoseFault|WhichOctet|WholeFrames)\./ { print $1 }' | sort -u)
 }
 
 # Every edit is listed by its crate and name: once under a function, where it counts as one wrong answer, or else in docs/DEMANDS.md, where one edit may be wrong

@@ -1,5 +1,5 @@
-# The independent second program (tests/second): its own tests, then compared with the programs `cases`, `list` and `replay`, and with the C library by
-# calling it.
+# The independent second program (tests/second): its own tests, then compared with the programs `cases`, `list`, `replay` and `deframe`, and with the C
+# library by calling it.
 second=$CARGO_TARGET_DIR/release/second
 calls=$CARGO_TARGET_DIR/release/calls
 cargo_for_second=(--quiet --release --offline --manifest-path tests/second/Cargo.toml)
@@ -28,4 +28,5 @@ check 'cases: the second program prints the same' second_cases
 check 'cases: the second program reads and walks thousands of generated inputs alike' "$second" compare-cases target/bin/cases
 check 'list: the second program lists thousands of generated inputs alike' "$second" compare target/bin/list
 check 'replay: the second program replays thousands of generated run files alike' "$second" compare-replay target/bin/replay
+check 'frames: the second program takes packets out of more than a thousand generated frame files alike' "$second" compare-frames target/bin/deframe
 check 'library: the second program calls it and finds the same, every octet' "$calls"

@@ -16,7 +16,10 @@ too_deep='branmuslin_write_space (the longest data)
 branmuslin_write_encapsulation (the longest content)
 branmuslin_take_packet (the longest unsegmented one)
 branmuslin_take_packet (the longest that is held)
-branmuslin_take_packet (the last of the longest unit)'
+branmuslin_take_packet (the last of the longest unit)
+branmuslin_take_frame (the most that comes out)
+branmuslin_take_frame (a piece that goes on)
+branmuslin_take_frame (a new piece)'
 
 array_is_found() {
     local wraps
@@ -27,7 +30,7 @@ array_is_found() {
         diff <(sed 's/^/too deep: /; s/$/ used N octets of stack, and may use 8192/' <<<"$too_deep") <(sed -E 's/ [67][0-9]{4} / N /' "$work/err")
 }
 
-# Both objects of the archive copy octets, and need memmove where the array vanished; copies that became loops would not need it.
+# Each object of the archive copies octets, and needs memmove where the array vanished; copies that became loops would not need it.
 copies_by_memmove() {
     nm "$archive" >/dev/null && diff <(ar t "$archive" | sort) <(nm -A -u "$archive" | sed -nE 's/.*:([^:]+): +U memmove$/\1/p' | sort)
 }

@@ -135,6 +135,8 @@ void holds(struct place place, const char *what, struct lent lent, struct octets
     struct memory *memory = lent.memory;
     size_t at = 0;
     memcpy(memory->as_lent + memory->front, front.at, front.length);
+    if (memcmp(memory->all, memory->as_lent, memory->length) == 0)
+        at = memory->length;
     while (at < memory->length && memory->all[at] == memory->as_lent[at])
         at++;
     count(place, at == memory->length);

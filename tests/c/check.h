@@ -69,6 +69,9 @@ void test_round_trips(void);
 void test_lanes(void);
 void test_refused(void);
 void test_sound(void);
+void test_frames(void);
+void test_frames_refused(void);
+void test_frame_runs(void);
 void test_lengths_over_32_bits(void);
 
 #endif

@@ -68,6 +68,18 @@ static void lanes(uint8_t *octets)
     same(HERE, "a record's output", 0, branmuslin_close_lane(state, 0, pool, sizeof pool, octets, OVER + 19).refusal);
 }
 
+/* The octets as a field, a buffer and an output; and a piece over 32 bits. Space Packets of seven octets of 0 come out of a field of 14. */
+static void frames(uint8_t *octets)
+{
+    static uint8_t buffer[BRANMUSLIN_PIECE_LENGTH], output[BRANMUSLIN_FRAME_OUTPUT];
+    static const uint8_t field[14];
+    const struct branmuslin_frames fresh = branmuslin_fresh_frames(), over = {true, 0, OVER};
+    same(HERE, "a field", 28, branmuslin_take_frame(fresh, 0, 0, octets, OVER + 14, buffer, sizeof buffer, output, sizeof output).refusal);
+    same(HERE, "a buffer", 28, branmuslin_take_frame(fresh, 0, 0, field, 14, octets, OVER + sizeof buffer, output, sizeof output).refusal);
+    same(HERE, "a piece", 28, branmuslin_take_frame(over, 1, 0, field, 14, buffer, sizeof buffer, output, sizeof output).refusal);
+    same(HERE, "packets' output", 14, branmuslin_take_frame(fresh, 0, 0, field, 14, buffer, sizeof buffer, octets, OVER).octets);
+}
+
 static void with_zeros(void (*test)(uint8_t *octets))
 {
     const size_t length = OVER + BRANMUSLIN_POOL_LENGTH;
@@ -81,4 +93,5 @@ void test_lengths_over_32_bits(void)
     with_zeros(inputs);
     with_zeros(outputs);
     with_zeros(lanes);
+    with_zeros(frames);
 }

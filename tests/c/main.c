@@ -12,6 +12,9 @@ int main(void)
         test_lanes();
         test_refused();
         test_sound();
+        test_frames();
+        test_frames_refused();
+        test_frame_runs();
     }
     home = BETWEEN_GUARDS;
     test_lengths_over_32_bits();

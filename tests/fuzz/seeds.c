@@ -1,5 +1,5 @@
 /*
- * Makes the first inputs of the corpus in the folder that it is given: one for each function and refusal, and for each situation of the lanes. The
+ * Makes the first inputs of the corpus in the folder that it is given: one for each function and refusal, and for each situation of lanes and frames. The
  * fuzzer starts from these; it could not find most of them by itself, for it does not see inside the archive.
  */
 #include <branmuslin.h>
@@ -14,6 +14,7 @@
 #define READ_RECORD "04"
 #define READ_FILE "05"
 #define RUN "06 00"
+#define FRAMES "08 00"
 #define BEHIND(pick) "8" pick
 
 /* Output space: exactly what is needed, an octet less, an octet more, or so many. */
@@ -32,6 +33,13 @@
 #define CHANGED_TWICE(at, octet, at2, octet2, call) " 05 01" at octet at2 octet2 call
 #define KEEP " 06"
 #define GO_BACK " 07"
+
+/* Calls with frames. The next one of a source has a step of its count (00 the next, FF a repeat), a step beside the right pointer, its octets, and those
+   over 7 of the packets that begin in it. A state is whether a frame came before, its count, the piece's octets, and as many at its front. */
+#define NEXT_FRAME(step, beside, length, size) " 01" step beside length size EXACT "05"
+#define RAW_FRAME(count, pointer, space, length, octets) " 00 0000" count "0000" pointer space length octets
+#define OTHER_BUFFER(length, call) " 02" length call
+#define STATE(started, count, piece, length, octets) " 03" started count piece "00" length octets
 
 #define CONTINUATION "00"
 #define FIRST "01"
@@ -122,6 +130,52 @@ static const struct seed runs[] = {
     {"keep-and-go-back", RUN GROUP_OF_300 KEEP FITTING("00", LAST, "00", "000064", EXACT) FITTING("00", FIRST, "00", "000200", EXACT) GO_BACK NEXT},
 };
 
+#define IDLE_PACKETS "E0E0E0E0E0E0E0E0"
+#define A_PACKET "002AC0050001AABB"
+/* A packet of 39 octets of which 20 are in the first frame, whose count is 1. */
+#define BEGUN NEXT_FRAME("00", "00", "0014", "0020")
+#define REST_OF_IT "E0E0E0" IDLE_PACKETS IDLE_PACKETS
+
+static const struct seed frames[] = {
+    {"frames-whole", FRAMES NEXT_FRAME("00", "00", "07FE", "003F") NEXT_FRAME("00", "00", "07FE", "0000") NEXT_FRAME("00", "00", "0008", "0001")},
+    {"frames-across", "88 00" NEXT_FRAME("00", "00", "045B", "0FFF") NEXT_FRAME("00", "00", "045B", "0FFF") NEXT_FRAME("00", "00", "045B", "0FFF")
+                          NEXT_FRAME("00", "00", "045B", "0FFF") NEXT_FRAME("00", "00", "045B", "0010") NEXT_FRAME("00", "00", "0009", "0010")},
+    {"frames-cut-header", FRAMES NEXT_FRAME("00", "00", "0013", "0009") NEXT_FRAME("00", "00", "0008", "0009") NEXT_FRAME("00", "00", "0009", "0009")
+                              NEXT_FRAME("00", "00", "0014", "0009")},
+    {"frames-repeat", FRAMES BEGUN NEXT_FRAME("FF", "00", "0014", "0020") RAW_FRAME("0001", "07FE", EXACT, "000008", IDLE_PACKETS)
+                          RAW_FRAME("0002", "07FF", MORE, "000008", IDLE_PACKETS)},
+    {"frames-gap", FRAMES BEGUN NEXT_FRAME("01", "00", "0020", "0020") NEXT_FRAME("00", "00", "0020", "0020") NEXT_FRAME("80", "00", "0030", "0020")},
+    {"frames-from-255-to-0", FRAMES STATE("01", "FF", "0006", "0006", "002AC0050001") RAW_FRAME("0000", "0002", EXACT, "00000A", "AABB" IDLE_PACKETS)},
+    {"frames-idle", "88 00" BEGUN RAW_FRAME("0002", "07FE", EXACT, "000013", REST_OF_IT) RAW_FRAME("0003", "07FE", EXACT, "000008", IDLE_PACKETS)
+                        RAW_FRAME("0004", "0000", EXACT, "000008", A_PACKET) RAW_FRAME("0005", "07FE", EXACT, "0007FE", "")},
+    {"frames-contradict", FRAMES BEGUN RAW_FRAME("0002", "0000", EXACT, "000008", A_PACKET) BEGUN NEXT_FRAME("00", "01", "0020", "0000") BEGUN
+                              NEXT_FRAME("00", "FF", "0020", "0000") BEGUN RAW_FRAME("0007", "07FF", EXACT, "000020", "")},
+    {"frames-not-begun", FRAMES RAW_FRAME("0009", "07FF", EXACT, "000008", A_PACKET) RAW_FRAME("000A", "0003", EXACT, "00000B", "000000" A_PACKET)},
+    {"frames-dropped", FRAMES RAW_FRAME("0000", "0000", EXACT, "000011", A_PACKET "20" A_PACKET)
+                           RAW_FRAME("0001", "0000", EXACT, "000012", A_PACKET "E901" A_PACKET) BEGUN
+                               RAW_FRAME("0004", "0008", EXACT, "000011", A_PACKET "F8" A_PACKET)},
+    {"frames-longest", FRAMES NEXT_FRAME("00", "00", "07FE", "1FF9") NEXT_FRAME("00", "00", "07FE", "0000") NEXT_FRAME("00", "00", "07FE", "0000")
+                           NEXT_FRAME("00", "00", "07FE", "0000") NEXT_FRAME("00", "00", "07FE", "0003")},
+    {"frames-over-longest", FRAMES NEXT_FRAME("00", "00", "07FE", "1FFA") RAW_FRAME("0002", "0000", EXACT, "00000D", IDLE_PACKETS "002AC0051F")
+                                RAW_FRAME("0003", "07FF", EXACT, "000008", "FA00000000000000") RAW_FRAME("0004", "0000", EXACT, "00000E", IDLE_PACKETS "002AC0051FFA")
+                                    STATE("01", "05", "1FFF", "0006", "002AC0051FFA") RAW_FRAME("0006", "0002", EXACT, "00000A", "0000" IDLE_PACKETS)},
+    {"frames-encapsulation", FRAMES RAW_FRAME("0000", "0000", EXACT, "00000C", IDLE_PACKETS "EA002000")
+                                 RAW_FRAME("0001", "0000", EXACT, "00000C", IDLE_PACKETS "EA002001")
+                                     RAW_FRAME("0002", "0000", EXACT, "000010", IDLE_PACKETS "EB00000000002001")
+                                         RAW_FRAME("0003", "0000", EXACT, "000010", IDLE_PACKETS "EB00000000002000")
+                                             RAW_FRAME("0004", "0000", EXACT, "00000E", IDLE_PACKETS "EB0000000000")
+                                                 RAW_FRAME("0005", "0003", EXACT, "00000B", "000955" IDLE_PACKETS)},
+    {"frames-other-piece", "88 00" STATE("01", "05", "1FFF", "0006", "002AC0051FF9") RAW_FRAME("0006", "0001", EXACT, "000009", IDLE_PACKETS "E0")
+                               STATE("00", "05", "0008", "0008", A_PACKET) RAW_FRAME("0005", "0000", EXACT, "000008", IDLE_PACKETS)
+                                   STATE("01", "05", "0003", "0003", "202020") RAW_FRAME("0006", "07FF", EXACT, "000008", IDLE_PACKETS)},
+    {"frames-28", FRAMES BEGUN RAW_FRAME("0002", "07FF", EXACT, "000007", "E0E0E0E0E0E0E0") RAW_FRAME("0100", "07FF", EXACT, "000008", IDLE_PACKETS)
+                      RAW_FRAME("0102", "07FF", EXACT, "000008", IDLE_PACKETS) RAW_FRAME("0002", "0008", EXACT, "000008", IDLE_PACKETS)
+                          RAW_FRAME("0002", "0800", SHORT, "000008", IDLE_PACKETS) OTHER_BUFFER("1FFF", BEGUN) OTHER_BUFFER("2001", BEGUN)
+                              RAW_FRAME("00FF", "0007", EXACT, "000008", IDLE_PACKETS) RAW_FRAME("0000", "07FF", EXACT, "0007FF", "")},
+    {"frames-28-piece", FRAMES STATE("01", "01", "2000", "0000", "") BEGUN STATE("01", "01", "1FFF", "0000", "") BEGUN " 03 01 01 0001 20 0000" BEGUN},
+    {"frames-9", "88 00" BEGUN RAW_FRAME("0002", "07FF", SHORT, "000008", A_PACKET) RAW_FRAME("0001", "07FF", SPACE("000000"), "000008", A_PACKET)},
+};
+
 static const char *folder;
 
 static FILE *begin(const char *name)
@@ -199,7 +253,7 @@ int main(int count, char **arguments)
     folder = arguments[1];
     struct branmuslin_state unsound = a_state(9);
     unsound.marks[7] = 1;
-    return MAKE(packets) || MAKE(records) || MAKE(runs) || make_state("state-take", a_state(9), FITTING("00", LAST, "00", "000001", EXACT)) ||
+    return MAKE(packets) || MAKE(records) || MAKE(runs) || MAKE(frames) || make_state("state-take", a_state(9), FITTING("00", LAST, "00", "000001", EXACT)) ||
            make_state("state-take-18", a_state(BRANMUSLIN_MOST_PACKETS), NEXT) || make_state("state-close", a_state(9), CLOSE("00", EXACT)) ||
            make_state("state-open", a_state(9), OPEN("01", "002A", "00", "3E", "40")) ||
            make_state("state-close-24", unsound, CLOSE("00", EXACT));

@@ -10,6 +10,8 @@
 typedef struct branmuslin_state state;
 typedef struct branmuslin_change change;
 typedef struct branmuslin_answer answer;
+typedef struct branmuslin_frames frames;
+typedef struct branmuslin_framed framed;
 
 static bool wrong(const char *fault)
 {
@@ -191,4 +193,116 @@ WRAPPED(change, close_lane, state s, size_t lane, const uint8_t *pool, size_t po
     if (c.refusal == 9 && output_length > 0 && wrong("close_lane-begins-refused"))
         output[0] ^= 1;
     return c;
+}
+
+WRAPPED(frames, fresh_frames, void)
+{
+    frames s = REAL(fresh_frames)();
+    if (wrong("fresh_frames-began-before"))
+        s.started = true;
+    return s;
+}
+
+/* A frame as it was handed in: the faults below look at it again. */
+struct frame {
+    frames before;
+    uint32_t count, pointer;
+    const uint8_t *field;
+    size_t length;
+};
+
+static bool is_in_step(const struct frame *f)
+{
+    return !f->before.started || f->count == (f->before.count + 1u) % 256;
+}
+
+/* Where the rest of the field begins that was kept or dropped: after the packets that came out of it. */
+static size_t rest_of(const struct frame *f, const framed *a)
+{
+    const bool finished = f->before.piece > 0 && !a->given_up;
+    return finished ? a->octets - f->before.piece : f->pointer + a->octets;
+}
+
+/* A rest that is the beginning of a Space Packet of 8,193 octets is kept. */
+static void keep_8193(const struct frame *f, framed *a, uint8_t *piece)
+{
+    const size_t at = rest_of(f, a);
+    if (f->length - at < 6 || f->field[at] >= 0x20 || f->field[at + 4] * 256 + f->field[at + 5] != 8193 - 7)
+        return;
+    a->dropped = false;
+    a->state.piece = f->length - at;
+    memcpy(piece, f->field + at, f->length - at);
+}
+
+/* A rest that is dropped is read on after the octet that is wrong. */
+static void read_dropped(const struct frame *f, framed *a, uint8_t *output)
+{
+    struct branmuslin_packet p;
+    size_t place;
+    for (size_t at = rest_of(f, a) + 1; at < f->length && REAL(read_packet)(f->field + at, f->length - at, &p, &place) == 0; at += p.offset + p.length) {
+        memcpy(output + a->octets, f->field + at, p.offset + p.length);
+        a->octets += p.offset + p.length;
+        a->packets++;
+    }
+}
+
+/* A piece that is not whole comes out with the pointer 0 as if it were. */
+static void accept_piece(const struct frame *f, framed *a, const uint8_t *old_piece, uint8_t *output)
+{
+    memmove(output + f->before.piece, output, a->octets);
+    memcpy(output, old_piece, f->before.piece);
+    a->given_up = false;
+    a->packets++;
+    a->octets += f->before.piece;
+}
+
+/* Faults of a frame that was taken. */
+static void spoil_frame(const struct frame *f, framed *a, const uint8_t *old_piece, uint8_t *piece, uint8_t *output, size_t output_length)
+{
+    if (f->pointer == 2046 && wrong("take_frame-2046-keeps-piece")) {
+        a->state.piece = f->before.piece;
+        a->given_up = false;
+    }
+    if (f->pointer == 0 && a->given_up && is_in_step(f) && wrong("take_frame-0-accepts-piece"))
+        accept_piece(f, a, old_piece, output);
+    if (a->dropped && wrong("take_frame-lets-8193-through"))
+        keep_8193(f, a, piece);
+    if (a->dropped && wrong("take_frame-reads-dropped-rest"))
+        read_dropped(f, a, output);
+    if (a->state.piece > 0 && wrong("take_frame-piece-one-off"))
+        memmove(piece + 1, piece, a->state.piece);
+    if (a->given_up && wrong("take_frame-hides-given-up"))
+        a->given_up = false;
+    if (a->dropped && wrong("take_frame-hides-dropped"))
+        a->dropped = false;
+    if (a->octets < output_length && wrong("take_frame-writes-behind-packets"))
+        output[a->octets] ^= 1;
+    if (a->state.piece < BRANMUSLIN_PIECE_LENGTH && wrong("take_frame-writes-behind-piece"))
+        piece[a->state.piece] ^= 1;
+    if (wrong("take_frame-forgets-count"))
+        a->state.count = f->before.count;
+}
+
+WRAPPED(framed, take_frame, frames s, uint32_t count, uint32_t pointer, const uint8_t *field, size_t field_length, uint8_t *piece, size_t piece_length,
+        uint8_t *output, size_t output_length)
+{
+    static uint8_t old_piece[BRANMUSLIN_PIECE_LENGTH];
+    const struct frame f = {s, count, pointer, field, field_length};
+    if (piece_length == sizeof old_piece)
+        memcpy(old_piece, piece, sizeof old_piece);
+    /* In step is what comes after the count before. */
+    if (count < 256 && s.started && count != s.count && wrong("take_frame-gap-keeps-piece"))
+        s.count = (uint8_t)(count - 1);
+    framed a = REAL(take_frame)(s, count, pointer, field, field_length, piece, piece_length, output, output_length);
+    if (a.kind == BRANMUSLIN_FRAME_TAKEN)
+        spoil_frame(&f, &a, old_piece, piece, output, output_length);
+    if (a.kind == BRANMUSLIN_FRAME_REPEAT && wrong("take_frame-repeat-drops-piece"))
+        a.state.piece = 0;
+    if (a.refusal == 28 && wrong("take_frame-refused-counts"))
+        a.state.count = (uint8_t)count;
+    if (a.refusal == 28 && output_length < BRANMUSLIN_FRAME_OUTPUT && wrong("take_frame-9-for-28"))
+        a.refusal = 9;
+    if (a.refusal == 9 && wrong("take_frame-9-changes-piece"))
+        piece[0] ^= 1;
+    return a;
 }

@@ -16,9 +16,10 @@
 
 /* MOST is about twice what the deepest call uses: room for another compiler's frames and another machine's memmove. The array would be eight times MOST,
    and a copy of the pool twice. */
-enum { MOST = 8192, STACK = 1 << 20, PAINT = 0xA5, APID = 42 };
+enum { MOST = 8192, STACK = 1 << 20, PAINT = 0xA5, APID = 42, LONGEST_FRAMED_DATA = BRANMUSLIN_LONGEST_FRAMED - 6 };
 
-/* A call and what it is given: lane 0 holds a group of so many octets, or none, and the packet that comes next has these flags and data of that length. */
+/* A call and what it is given: lane 0 holds a group of so many octets, or none, and the packet that comes next has these flags and data of that length. Of
+   frames, the piece has so many octets, and the packet that it is a piece of data of that length. */
 struct call {
     const char *name, *what;
     bool (*make)(const struct call *call); /* tells whether the call did what it is measured for */
@@ -28,7 +29,7 @@ struct call {
 };
 
 static uint8_t data[BRANMUSLIN_LONGEST_DATA], output[BRANMUSLIN_LONGEST_UNIT], pool[BRANMUSLIN_POOL_LENGTH], packet[BRANMUSLIN_LONGEST_PACKET];
-static uint8_t record[BRANMUSLIN_RECORD_LENGTH];
+static uint8_t record[BRANMUSLIN_RECORD_LENGTH], piece[BRANMUSLIN_PIECE_LENGTH], field[BRANMUSLIN_LONGEST_FIELD];
 static size_t packet_length;
 static struct branmuslin_state state;
 static const struct branmuslin_settings settings = {.station = 7, .apid = APID, .secondary = 0, .share = BRANMUSLIN_BLOCKS, .cap = BRANMUSLIN_BLOCKS};
@@ -119,6 +120,41 @@ static bool close_lane(const struct call *call)
     return branmuslin_close_lane(state, 0, pool, sizeof pool, output, sizeof output).refusal == BRANMUSLIN_DONE;
 }
 
+static bool fresh_frames(const struct call *call)
+{
+    (void)call;
+    return !branmuslin_fresh_frames().started;
+}
+
+/* The frame after one that left the front of the packet as the piece; the field is made before. */
+static struct branmuslin_framed frame(const struct call *call, uint32_t pointer)
+{
+    const struct branmuslin_frames frames = {true, 0, call->held};
+    memcpy(piece, packet, call->held);
+    return branmuslin_take_frame(frames, 1, pointer, field, sizeof field, piece, sizeof piece, output, sizeof output);
+}
+
+/* The most that comes out: the rest of the packet stands before the pointer, and packets of one octet after it. */
+static bool take_most(const struct call *call)
+{
+    const size_t before = packet_length - call->held;
+    memset(field, 0xE0, sizeof field);
+    memcpy(field, packet + call->held, before);
+    return frame(call, (uint32_t)before).octets == call->held + sizeof field;
+}
+
+static bool take_more_piece(const struct call *call)
+{
+    memcpy(field, packet + call->held, sizeof field);
+    return frame(call, BRANMUSLIN_NO_PACKET).state.piece == call->held + sizeof field;
+}
+
+static bool take_new_piece(const struct call *call)
+{
+    memcpy(field, packet, sizeof field);
+    return frame(call, 0).state.piece == sizeof field;
+}
+
 static const struct call calls[] = {
     {"branmuslin_read_packet", "the longest packet", read_packet, 0, BRANMUSLIN_UNSEGMENTED, BRANMUSLIN_LONGEST_DATA},
     {"branmuslin_write_space", "the longest data", write_space, 0, BRANMUSLIN_UNSEGMENTED, BRANMUSLIN_LONGEST_DATA},
@@ -133,6 +169,10 @@ static const struct call calls[] = {
     {"branmuslin_take_packet", "the longest that is held", take_held, 0, BRANMUSLIN_FIRST, BRANMUSLIN_POOL_LENGTH},
     {"branmuslin_take_packet", "the last of the longest unit", take_unit, BRANMUSLIN_POOL_LENGTH, BRANMUSLIN_LAST, BRANMUSLIN_LONGEST_DATA},
     {"branmuslin_close_lane", "a group of a full pool", close_lane, BRANMUSLIN_POOL_LENGTH, BRANMUSLIN_LAST, 1},
+    {"branmuslin_fresh_frames", "no piece", fresh_frames, 0, BRANMUSLIN_UNSEGMENTED, 1},
+    {"branmuslin_take_frame", "the most that comes out", take_most, BRANMUSLIN_PIECE_LENGTH - 1, BRANMUSLIN_UNSEGMENTED, LONGEST_FRAMED_DATA},
+    {"branmuslin_take_frame", "a piece that goes on", take_more_piece, BRANMUSLIN_LONGEST_FIELD, BRANMUSLIN_UNSEGMENTED, LONGEST_FRAMED_DATA},
+    {"branmuslin_take_frame", "a new piece", take_new_piece, 0, BRANMUSLIN_UNSEGMENTED, LONGEST_FRAMED_DATA},
 };
 
 static void stop(const struct call *call, const char *what)

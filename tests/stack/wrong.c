@@ -38,3 +38,11 @@ WRAPPED(struct branmuslin_answer, take_packet, struct branmuslin_state state, si
     copy(apart, packet, packet_length);
     return REAL(take_packet)(state, lane, apart, packet_length, pool, pool_length, output, output_length);
 }
+
+WRAPPED(struct branmuslin_framed, take_frame, struct branmuslin_frames state, uint32_t count, uint32_t pointer, const uint8_t *field, size_t field_length,
+        uint8_t *piece, size_t piece_length, uint8_t *output, size_t output_length)
+{
+    uint8_t apart[BRANMUSLIN_LONGEST_PACKET];
+    copy(apart, field, field_length);
+    return REAL(take_frame)(state, count, pointer, apart, field_length, piece, piece_length, output, output_length);
+}

@@ -14,3 +14,4 @@ pub mod InShare
 pub mod RunLaws
 pub mod WhoseFault
 pub mod WhichOctet
+pub mod WholeFrames

@@ -5,4 +5,5 @@ pub mod Demand2
 pub mod Demand3
 pub mod WhoseFault
 pub mod WhichOctet
+pub mod WholeFrames
 pub mod Laws

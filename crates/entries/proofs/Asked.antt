@@ -9,6 +9,7 @@ use Rattle.entries.specs.Exported.{Name, entry}
 use Rattle.entries.proofs.Refusals.{in-C}
 use Rattle.entries.proofs.EachEntry.{reads-packet, gives-data, looks-at, walks, writes-space, writes-encapsulation, reads-record, reads-record-file, writes-record}
 use Rattle.entries.proofs.EachEntry.{reads-packet-C, reads-record-file-C, starts-fresh, finds-sound, lists-so}
+use Rattle.entries.proofs.FrameEntries.{starts-frames, takes-frame}
 use Rattle.entries.proofs.LaneEntries.{opens-lane, takes-packet, takes-packet-C, closes-lane}
 
 pub as-asked : (n : Name) → Asked (entry n)
@@ -39,3 +40,5 @@ as-asked name.branmuslin-is-sound = finds-sound
 as-asked name.branmuslin-open-lane = opens-lane
 as-asked name.branmuslin-take-packet = takes-packet-C
 as-asked name.branmuslin-close-lane = closes-lane
+as-asked name.branmuslin-fresh-frames = starts-frames
+as-asked name.branmuslin-take-frame = takes-frame

@@ -24,6 +24,8 @@ use Rattle.branmuslin.proofs.branmuslin_write_record.Met as branmuslinWriteReco
 use Rattle.lanes.proofs.branmuslin_open_lane.Met as branmuslinOpenLane
 use Rattle.lanes.proofs.branmuslin_take_packet.Met as branmuslinTakePacket
 use Rattle.lanes.proofs.branmuslin_close_lane.Met as branmuslinCloseLane
+use Rattle.frames.proofs.branmuslin_fresh_frames.Met as branmuslinFreshFrames
+use Rattle.frames.proofs.branmuslin_take_frame.Met as branmuslinTakeFrame
 use Rattle.octets.proofs.octet_at.Met as octetAt
 use Rattle.octets.proofs.be16_at.Met as be16At
 use Rattle.octets.proofs.be32_at.Met as be32At
@@ -40,6 +42,9 @@ use Rattle.packet.proofs.header_of.Met as headerOf
 use Rattle.packet.proofs.size_of.Met as sizeOf
 use Rattle.reading.proofs.data_of.Met as dataOf
 use Rattle.walk.proofs.walk.Met as walkAll
+use Rattle.reading.proofs.sizes_in.Met as sizesIn
+use Rattle.pieces.proofs.judge_joined.Met as judgeJoined
+use Rattle.pieces.proofs.read_on.Met as readOn
 use Rattle.record.proofs.is_possible.Met as isPossible
 use Rattle.record.proofs.front_record.Met as frontRecord
 use Rattle.marks.proofs.blocks_for.Met as blocksFor
@@ -74,6 +79,7 @@ use Rattle.telling.proofs.put_last.Met as putLast
 use Rattle.runfile.proofs.begin.Met as beginRun
 use Rattle.runfile.proofs.call_in.Met as callIn
 use Rattle.replaying.proofs.replay_some.Met as replaySome
+use Rattle.deframing.proofs.tell_next.Met as tellNext
 use Rattle.entries.specs.Contract.{Function}
 use Rattle.entries.specs.Exported as name
 use Rattle.entries.specs.Exported.{Name}
@@ -114,6 +120,8 @@ of-entry name.branmuslin-is-sound M = branmuslinIsSound.met
 of-entry name.branmuslin-open-lane M = branmuslinOpenLane.met
 of-entry name.branmuslin-take-packet M = branmuslinTakePacket.met
 of-entry name.branmuslin-close-lane M = branmuslinCloseLane.met
+of-entry name.branmuslin-fresh-frames M = branmuslinFreshFrames.met
+of-entry name.branmuslin-take-frame M = branmuslinTakeFrame.met
 
 pub honours : (p : Public) → Honours (function p)
 honours (the-entry n) M = of-entry n M
@@ -131,6 +139,9 @@ honours public.number-of M = numberOf.met
 honours public.place-of M = placeOf.met
 honours public.header-of M = headerOf.met
 honours public.size-of M = sizeOf.met
+honours public.sizes-in M = sizesIn.met
+honours public.judge-joined M = judgeJoined.met
+honours public.read-on M = readOn.met
 honours public.is-possible M = isPossible.met
 honours public.front-record M = frontRecord.met
 honours public.blocks-for M = blocksFor.met
@@ -159,3 +170,4 @@ honours public.adler32 M = adlerOf.met
 honours public.begin M = beginRun.met
 honours public.call-in M = callIn.met
 honours public.replay-some M = replaySome.met
+honours public.tell-next M = tellNext.met

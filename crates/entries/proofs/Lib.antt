@@ -2,6 +2,7 @@ pub mod Plain
 pub mod Refusals
 pub mod EachEntry
 pub mod LaneEntries
+pub mod FrameEntries
 pub mod Asked
 pub mod Promised
 pub mod OneAnswer

@@ -13,6 +13,7 @@ use Rattle.entries.specs.Views.{view, Permitted}
 use Rattle.entries.proofs.Plain.{two, five}
 use Rattle.entries.proofs.Refusals.{one-permitted}
 use Rattle.entries.proofs.LaneEntries.{same-numbered}
+use Rattle.entries.proofs.FrameEntries.{same-framed}
 use Rattle.entries.proofs.Asked.{as-asked}
 use Rattle.entries.proofs.Promised.{promised}
 
@@ -72,6 +73,8 @@ seen name.branmuslin-is-sound κs a r q v w e f = (e, refl)
 seen name.branmuslin-open-lane κs a r q v w e f = (λ i. record { refusal = e i; state = f i }, refl)
 seen name.branmuslin-take-packet κs a r q v w e f = (same-numbered r q e (λ i. f i .0), λ i. (tt, (tt, (tt, (f i .1, (f i .2, v .1 .1 .1 .1 .1))))))
 seen name.branmuslin-close-lane κs a r q v w e f = (λ i. record { refusal = e i; state = f i .0 }, λ i. (tt, (tt, (tt, (f i .1, v .1 .1 .1 .1)))))
+seen name.branmuslin-fresh-frames κs a r q v w e f = (f, refl)
+seen name.branmuslin-take-frame κs a r q v w e f = (same-framed r q e (λ i. f i .0), λ i. (tt, (tt, (tt, (tt, (f i .1, (f i .2, v .1 .1 .1 .1 .1 .1)))))))
 
 of-entry : (n : Name) → OneAnswer (function (the-entry n)) (Permitted n)
 of-entry n κs a h r q v w e f =
@@ -95,6 +98,9 @@ one-answers public.number-of = by-value (λ κs a h M 𝓤 H A mem run. refl) (�
 one-answers public.place-of = by-value (λ κs a h M 𝓤 H A mem run. refl) (λ κs a v w. refl)
 one-answers public.header-of = by-value (λ κs a h M 𝓤 H A mem run. refl) (λ κs a v w. refl)
 one-answers public.size-of = by-value (λ κs a h M 𝓤 H A mem run. refl) (λ κs a v w. refl)
+one-answers public.sizes-in = by-value (λ κs a h M 𝓤 H A mem run. refl) (λ κs a v w. refl)
+one-answers public.judge-joined = by-value (λ κs a h M 𝓤 H A mem run. refl) (λ κs a v w. refl)
+one-answers public.read-on = by-value (λ κs a h M 𝓤 H A mem run. refl) (λ κs a v w. refl)
 one-answers public.is-possible = by-value (λ κs a h M 𝓤 H A mem run. refl) (λ κs a v w. refl)
 one-answers public.front-record = by-value (λ κs a h M 𝓤 H A mem run. refl) (λ κs a v w. refl)
 one-answers public.blocks-for = by-value (λ κs a h M 𝓤 H A mem run. refl) (λ κs a v w. refl)
@@ -125,6 +131,12 @@ one-answers public.adler32 = by-value (λ κs a h M 𝓤 H A mem run. refl) (λ 
 one-answers public.begin = by-value (λ κs a h M 𝓤 H A mem run. refl) (λ κs a v w. refl)
 one-answers public.call-in = by-value (λ κs a h M 𝓤 H A mem run. refl) (λ κs a v w. refl)
 one-answers public.replay-some =
+    fixed (λ κs a h M 𝓤 H A mem run. five 𝓤)
+    (λ κs a h r q v w e f. (
+      equals (e .0) (f .0),
+      λ i. (tt, (tt, (equals (e .1 .0) (f .1 .0) i, (equals (e .1 .1 .0) (f .1 .1 .0) i, (equals (e .1 .1 .1 .0) (f .1 .1 .1 .0) i, v .1 .1 .1 .1 .1))))),
+    ))
+one-answers public.tell-next =
     fixed (λ κs a h M 𝓤 H A mem run. five 𝓤)
     (λ κs a h r q v w e f. (
       equals (e .0) (f .0),

@@ -12,7 +12,7 @@ use Rattle.reading.specs.Reading.{refusal}
 use Rattle.walk.specs.Walk.{walked}
 use Rattle.lanes.specs.Numbers.{numbered}
 use Rattle.listing.specs.Told.{listed, after}
-use Rattle.entries.specs.Entries.{toldWalked}
+use Rattle.entries.specs.Entries.{toldWalked, toldFramed}
 use Rattle.entries.specs.Exported as name
 use Rattle.entries.specs.Exported.{Name, toldNumbered}
 use Rattle.entries.specs.Contract.{Promises}
@@ -20,6 +20,7 @@ use Rattle.entries.specs.Functions.{the-entry, function}
 use Rattle.entries.specs.Views.{view, Permitted}
 use Rattle.entries.proofs.EachEntry.{same-walk, one-fixes}
 use Rattle.entries.proofs.LaneEntries.{same-answered, same-numbered}
+use Rattle.entries.proofs.FrameEntries.{same-framed}
 use Rattle.entries.proofs.Plain.{in-words, two, three, four}
 
 -- a list of one number; and what a listing leaves
@@ -79,3 +80,9 @@ promised name.branmuslin-take-packet κs a h M 𝓤 H A mem run =
     ))
 promised name.branmuslin-close-lane κs a h M 𝓤 H A mem run =
     two 𝓤 ∙ in-words 𝓤 (λ r s. (λ c. (ap (λ x. x .refusal ∷ []) (c .0), λ i. (c .0 i .state, c .1 i)), λ p. (λ i. record { refusal = number-alone (p .0) i; state = p .1 i .0 }, λ i. p .1 i .1)))
+promised name.branmuslin-fresh-frames κs a h M 𝓤 H A mem run = in-words 𝓤 (λ r s. (λ c. (refl, c), λ p. p .1))
+promised name.branmuslin-take-frame κs a h M 𝓤 H A mem run =
+    three 𝓤 ∙ in-words 𝓤 (λ r s. (
+      λ c. (ap toldFramed (c .0), λ i. (c .0 i .state, c .1 .0 i, c .1 .1 i)),
+      λ p. (same-framed r _ (p .0) (λ i. p .1 i .0), (λ i. p .1 i .1, λ i. p .1 i .2)),
+    ))

@@ -1,4 +1,4 @@
--- The public entries: readers, walk, writers, records, the state, opening, packet, closing, listing. Each has the promise that its contract has, to which
+-- The public entries: readers, walk, writers, records, the state, opening, packet, closing, listing, frames. Each has the promise that its contract has, to which
 -- `EachEntry` (Demand1.antt) ties it. A state has eight lanes, so a number over 7 is a closed lane's (`laneAt`), and one test for 11 serves a packet and a closing.
 use Prim.Native.Nat.{ℕ, _+_}
 use Prim.{Unit}
@@ -30,6 +30,9 @@ use Rattle.intake.specs.declared.Answered.{Answered}
 use Rattle.intake.specs.Calls.{openingTests, closingTests, packetStep}
 use Rattle.intake.specs.After.{opening, closing, closingOut, taking, takingPool, takingOut}
 use Rattle.intake.specs.Told as intakeTold
+use Rattle.frames.specs.declared.Frames.{Frames}
+use Rattle.frames.specs.declared.Framed.{Framed}
+use Rattle.frames.specs.Frames.{freshFrames, frameTests, framed, bufferAfter, outAfter}
 use Rattle.listing.specs.Listing.{listing, recordingText}
 use Rattle.listing.specs.Told as listingTold
 use Rattle.state.specs.Clauses.{Shaped}
@@ -206,3 +209,28 @@ listAll = lists listing
 
 abbrev pub listRecording : Entry
 listRecording = lists recordingText
+
+-- ---- Frames: a fresh start; and a frame: 28, 9. It is answered in numbers, beside the state
+abbrev pub freshStartOfFrames : Entry
+freshStartOfFrames = changes {Given = Unit {0}} {Answer = Unit {0}} (λ a. 0 ∷ []) (λ g. []) (λ g. 0 ∷ []) (λ g. freshFrames) (λ g. freshFrames)
+
+pub record Framing : Type 0 where
+  pub state : Frames
+  pub count : ℕ
+  pub pointer : ℕ
+  pub field : List ℕ
+  pub piece : List ℕ
+  pub out : List ℕ
+
+abbrev pub framingOf : Framing → Framed
+framingOf g = framed (g .state) (g .count) (g .pointer) (g .field) (g .piece) (length (g .out))
+
+abbrev pub toldFramed : Framed → List ℕ
+toldFramed a = a .refusal ∷ a .kind ∷ one (a .«given_up») ∷ one (a .dropped) ∷ a .packets ∷ a .octets ∷ []
+
+abbrev pub takeFrame : Entry
+takeFrame =
+    changes {Given = Framing} (λ numbers. numbers)
+    (λ g. frameTests (g .state) (g .count) (g .pointer) (length (g .field)) (length (g .piece)) (length (g .out))) (λ g. toldFramed (framingOf g))
+    {Lent = Frames × List ℕ × List ℕ} (λ g. (g .state, g .piece, g .out))
+    (λ g. (framingOf g .state, bufferAfter (g .state) (g .count) (g .pointer) (g .field) (g .piece) (length (g .out)), outAfter (g .state) (g .count) (g .pointer) (g .field) (g .piece) (g .out)))

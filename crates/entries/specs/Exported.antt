@@ -13,7 +13,7 @@ use Rattle.lanes.specs.declared.Numbered.{Numbered}
 use Rattle.lanes.specs.Numbers.{numbered}
 use Rattle.entries.specs.Entry.{Entry, numberFor}
 use Rattle.entries.specs.Entries.{changes, toldNumber, readPacket, dataOf, lookAt, walkAll, writeSpace, spaceText, writeEncapsulation, encapsulationText, readRecord, readRecordFile, writeRecord}
-use Rattle.entries.specs.Entries.{freshStart, isSound, openLane, takingOf, takePacket, closeLane, listAll, listRecording}
+use Rattle.entries.specs.Entries.{freshStart, isSound, openLane, takingOf, takePacket, closeLane, listAll, listRecording, freshStartOfFrames, takeFrame}
 
 -- an entry in C: the number comes back, and what else is told goes into something lent, which a refusal leaves as it was
 abbrev pub inC : (e : Entry) {M : Type 0} → (e .Given → M) → Entry
@@ -52,6 +52,7 @@ pub data Name : Type 0 where
   branmuslin-read-packet branmuslin-write-space branmuslin-write-encapsulation : Name
   branmuslin-read-record branmuslin-read-record-file branmuslin-write-record : Name
   branmuslin-fresh-start branmuslin-is-sound branmuslin-open-lane branmuslin-take-packet branmuslin-close-lane : Name
+  branmuslin-fresh-frames branmuslin-take-frame : Name
 
 abbrev pub entry : Name → Entry
 entry read-packet = readPacket
@@ -81,3 +82,5 @@ entry branmuslin-is-sound = isSound
 entry branmuslin-open-lane = openLane
 entry branmuslin-take-packet = takePacketC
 entry branmuslin-close-lane = closeLane
+entry branmuslin-fresh-frames = freshStartOfFrames
+entry branmuslin-take-frame = takeFrame

@@ -28,6 +28,8 @@ use Rattle.lanes.proofs.branmuslin_is_sound as branmuslinIsSound
 use Rattle.lanes.proofs.branmuslin_open_lane as branmuslinOpenLane
 use Rattle.lanes.proofs.branmuslin_take_packet as branmuslinTakePacket
 use Rattle.lanes.proofs.branmuslin_close_lane as branmuslinCloseLane
+use Rattle.frames.proofs.branmuslin_fresh_frames as branmuslinFreshFrames
+use Rattle.frames.proofs.branmuslin_take_frame as branmuslinTakeFrame
 use Rattle.octets.proofs.octet_at as octetAt
 use Rattle.octets.proofs.be16_at as be16At
 use Rattle.octets.proofs.be32_at as be32At
@@ -42,6 +44,9 @@ use Rattle.packet.proofs.number_of as numberOf
 use Rattle.packet.proofs.place_of as placeOf
 use Rattle.packet.proofs.header_of as headerOf
 use Rattle.packet.proofs.size_of as sizeOf
+use Rattle.reading.proofs.sizes_in as sizesIn
+use Rattle.pieces.proofs.judge_joined as judgeJoined
+use Rattle.pieces.proofs.read_on as readOn
 use Rattle.record.proofs.is_possible as isPossible
 use Rattle.record.proofs.front_record as frontRecord
 use Rattle.marks.proofs.blocks_for as blocksFor
@@ -70,6 +75,7 @@ use Rattle.telling.proofs.put_last as putLast
 use Rattle.runfile.proofs.begin as beginRun
 use Rattle.runfile.proofs.call_in as callIn
 use Rattle.replaying.proofs.replay_some as replaySome
+use Rattle.deframing.proofs.tell_next as tellNext
 use Rattle.entries.specs.Contract.{Function, valued}
 use Rattle.entries.specs.Exported as name
 use Rattle.entries.specs.Exported.{Name}
@@ -79,6 +85,7 @@ pub data Public : Type 0 where
   octet-at be16-at be32-at : Public
   put-octets put-octet put-be16 put-be32 : Public
   one-if smaller larger number-of place-of header-of size-of : Public
+  sizes-in judge-joined read-on : Public
   is-possible front-record : Public
   blocks-for find-from grant-blocks free-blocks marks-match store-octets gather-octets : Public
   need-of is-illegal is-fine plan-packet : Public
@@ -86,7 +93,7 @@ pub data Public : Type 0 where
   put put-decimal put-numbers : Public
   octets-of written : Public
   is-ready put-line put-bad put-last : Public
-  adler32 begin call-in replay-some : Public
+  adler32 begin call-in replay-some tell-next : Public
 
 -- `data-of` and `written` give back a part of a slice that they were lent: where it lies, and its octets
 abbrev named : Name → Function
@@ -118,6 +125,8 @@ named name.branmuslin-is-sound = valued branmuslinIsSound.ended (λ M. branmusli
 named name.branmuslin-open-lane = valued branmuslinOpenLane.ended (λ M. branmuslinOpenLane.clauses) branmuslinOpenLane.Symbol.routine
 named name.branmuslin-take-packet = valued branmuslinTakePacket.ended (λ M. branmuslinTakePacket.clauses) branmuslinTakePacket.Symbol.routine
 named name.branmuslin-close-lane = valued branmuslinCloseLane.ended (λ M. branmuslinCloseLane.clauses) branmuslinCloseLane.Symbol.routine
+named name.branmuslin-fresh-frames = valued branmuslinFreshFrames.ended (λ M. branmuslinFreshFrames.clauses) branmuslinFreshFrames.Symbol.routine
+named name.branmuslin-take-frame = valued branmuslinTakeFrame.ended (λ M. branmuslinTakeFrame.clauses) branmuslinTakeFrame.Symbol.routine
 
 abbrev pub function : Public → Function
 function (the-entry n) = named n
@@ -135,6 +144,9 @@ function number-of = valued numberOf.ended (λ M. numberOf.clauses) numberOf.Sym
 function place-of = valued placeOf.ended (λ M. placeOf.clauses) placeOf.Symbol.routine
 function header-of = valued headerOf.ended (λ M. headerOf.clauses) headerOf.Symbol.routine
 function size-of = valued sizeOf.ended (λ M. sizeOf.clauses) sizeOf.Symbol.routine
+function sizes-in = valued sizesIn.ended (λ M. sizesIn.clauses) sizesIn.Symbol.routine
+function judge-joined = valued judgeJoined.ended (λ M. judgeJoined.clauses) judgeJoined.Symbol.routine
+function read-on = valued readOn.ended (λ M. readOn.clauses) readOn.Symbol.routine
 function is-possible = valued isPossible.ended (λ M. isPossible.clauses) isPossible.Symbol.routine
 function front-record = valued frontRecord.ended (λ M. frontRecord.clauses) frontRecord.Symbol.routine
 function blocks-for = valued blocksFor.ended (λ M. blocksFor.clauses) blocksFor.Symbol.routine
@@ -164,3 +176,4 @@ function adler32 = valued adlerOf.ended (λ M. adlerOf.clauses) adlerOf.Symbol.r
 function begin = valued beginRun.ended (λ M. beginRun.clauses) beginRun.Symbol.routine
 function call-in = valued callIn.ended (λ M. callIn.clauses) callIn.Symbol.routine
 function replay-some = valued replaySome.ended (λ M. replaySome.clauses) replaySome.Symbol.routine
+function tell-next = valued tellNext.ended (λ M. tellNext.clauses) tellNext.Symbol.routine

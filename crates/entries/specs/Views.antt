@@ -12,7 +12,7 @@ use Rattle.state.specs.Clauses.{Shaped}
 use Rattle.entries.specs.Contract.{Function, Lives, Inputs, Result, OfTypes, Fact}
 use Rattle.entries.specs.Functions.{the-entry, function}
 use Rattle.entries.specs.Entry.{Entry, Permits}
-use Rattle.entries.specs.Entries.{openLane, takePacket, closeLane}
+use Rattle.entries.specs.Entries.{openLane, takePacket, closeLane, toldFramed}
 use Rattle.entries.specs.Exported as name
 use Rattle.entries.specs.Exported.{toldNumbered, Name, entry}
 
@@ -104,6 +104,12 @@ view name.branmuslin-take-packet = record {
   after = λ κs r (s, (lane, (octets, (pool, (out, e))))). (toldNumbered r, (r .state, now pool, now out));
 }
 view name.branmuslin-close-lane = record { given = viewOfClosing .given; after = viewOfClosing .after }
+view name.branmuslin-fresh-frames = record { given = λ κs a h. tt; after = λ κs r s. (tt, r) }
+view name.branmuslin-take-frame = record {
+  given = λ κs (state, (count, (pointer, (field, (piece, (out, e)))))) h.
+      record { state = state; count = count; pointer = pointer; field = now field; piece = now piece; out = now out };
+  after = λ κs r (state, (count, (pointer, (field, (piece, (out, e)))))). (toldFramed r, (r .state, now piece, now out));
+}
 
 -- what an entry's promise permits, in the code's words
 abbrev pub Permitted : (n : Name) → Fact (function (the-entry n))

@@ -9,6 +9,7 @@ use Rattle.octets.specs.Output.{leading}
 use Rattle.packet.specs.Space.{version, packetType, secondary, apid, flags, count, spaceHeader, dataOctets, spaceSize, flaggedIdle}
 use Rattle.packet.specs.Encapsulation.{limit, protocol, encapHeader, user, extension, encapSize, misnamed, emptyNamed}
 use Rattle.reading.specs.Places.{faultAt}
+use Rattle.reading.specs.declared.Sizes.{Sizes}
 
 abbrev pub isSpace : List ℕ → Bool
 isSpace s = eqb (version s) 0
@@ -22,6 +23,10 @@ header s = cond (isSpace s) spaceHeader (encapHeader s)
 
 unfoldable pub size : List ℕ → ℕ
 size s = cond (isSpace s) (spaceSize s) (encapSize s)
+
+-- both, as the octets that are there announce them
+unfoldable pub announced : List ℕ → Sizes
+announced s = record { header = header s; size = size s }
 
 -- a refused reading tells the number n and its place
 abbrev pub refusedBy : List ℕ → ℕ → List ℕ

@@ -17,7 +17,7 @@ use packet::LIMIT;
 use packet::Packet;
 
 // The octets of the header, from the length of length.
-fn header_for(l: u8) -> u8
+pub(crate) fn header_for(l: u8) -> u8
     ensures { λ r. ⌜ r ≡ headerFor l ⌝ }
 {
     if l == 0 {
@@ -32,7 +32,7 @@ fn header_for(l: u8) -> u8
 }
 
 // The packet length, from the last octets of the header.
-fn size_for(h: u8, s: &[u8]) -> usize
+pub(crate) fn size_for(h: u8, s: &[u8]) -> usize
     ensures { λ r. ⌜ r ≡ sizeFor h (now (s .entry)) ⌝ }
 {
     if h == 1 {

@@ -6,9 +6,11 @@ ghost use mathlib.Core.Path.{_≡_};
 ghost use Prim.Native.Nat.{_+_};
 ghost use denote.Ref.{ptr};
 ghost use Rattle.packet.specs.Told.{told};
-ghost use Rattle.reading.specs.Reading.{reading, content, contentAt};
+ghost use Rattle.reading.specs.Reading.{reading, announced, content, contentAt};
+use octets::be16_at;
 use octets::octet_at;
 use packet::Packet;
+use packet::SPACE_HEADER;
 use packet::header_of;
 use packet::size_of;
 
@@ -32,6 +34,30 @@ pub fn read_packet(s: &[u8]) -> Packet
     Packet::Refused {
         number: 2,
         place: 0,
+    }
+}
+
+// The octets of a header, and of the whole packet, as the header announces them.
+pub struct Sizes {
+    pub header: usize,
+    pub size: usize,
+}
+
+// The sizes that the octets at the front of s announce, however many are there; they are a packet's where its header is there.
+pub fn sizes_in(s: &[u8]) -> Sizes
+    ensures { λ r. ⌜ r ≡ announced (now (s .entry)) ⌝ }
+{
+    let first = octet_at(s, 0);
+    if first / 32 % 8 == 0 {
+        return Sizes {
+            header: SPACE_HEADER,
+            size: SPACE_HEADER + (be16_at(s, 4) as usize + 1),
+        };
+    }
+    let header = encapsulation::header_for(first % 4);
+    Sizes {
+        header: header as usize,
+        size: encapsulation::size_for(header, s),
     }
 }
 

@@ -26,9 +26,11 @@ static const struct {
     [OPEN_LANE] = {"branmuslin_open_lane", ONE(0) | ONE(11) | FROM_TO(21, 24)},
     [TAKE_PACKET] = {"branmuslin_take_packet", FROM_TO(0, 7) | FROM_TO(11, 20) | ONE(24) | ONE(27)},
     [CLOSE_LANE] = {"branmuslin_close_lane", ONE(0) | ONE(9) | ONE(11) | ONE(24)},
+    [FRESH_FRAMES] = {"branmuslin_fresh_frames", ONE(0)},
+    [TAKE_FRAME] = {"branmuslin_take_frame", ONE(0) | ONE(9) | ONE(28)},
 };
 
-#define NUMBERS 28
+#define NUMBERS 29
 
 /* libFuzzer reads this section as coverage, and clears it before each input. */
 __attribute__((section("__libfuzzer_extra_counters"))) static uint8_t counters[FUNCTIONS * NUMBERS + NOTICES];
@@ -118,10 +120,11 @@ int LLVMFuzzerTestOneInput(const uint8_t *data, size_t size)
     static void (*const picked[])(struct input *) = {
         fuzz_read_packet, fuzz_write_space,      fuzz_write_encapsulation, fuzz_write_record,
         fuzz_read_record, fuzz_read_record_file, fuzz_run,                 fuzz_any_state,
+        fuzz_frames,
     };
     struct input input = {data, size};
     const uint8_t first = next_octet(&input);
     side = first >= 128 ? BEHIND_A_WALL : BEFORE_A_WALL;
-    picked[first % 8](&input);
+    picked[first % 16 < 9 ? first % 16 : first % 8](&input);
     return 0;
 }

@@ -23,7 +23,7 @@ uint32_t next_number(struct input *input, unsigned width);
 /* The functions of the header. */
 enum function {
     READ_PACKET, WRITE_SPACE, WRITE_ENCAPSULATION, WRITE_RECORD, READ_RECORD, READ_RECORD_FILE, FRESH_START, IS_SOUND, OPEN_LANE, TAKE_PACKET, CLOSE_LANE,
-    FUNCTIONS
+    FRESH_FRAMES, TAKE_FRAME, FUNCTIONS
 };
 
 /* Says which function is called next, for the text of a failure. */
@@ -37,7 +37,10 @@ void demand(bool holds, const char *what, const char *file, int line);
 void answered(enum function function, uint8_t expected, uint8_t refusal);
 
 /* Notes something else that is worth a fuzzer's while: the archive is not instrumented, so a fuzzer sees only what the harness notes. */
-enum notice { KINDS_NOTICED = 0, GIVEN_UP_NOTICED = 8, OPEN_NOTICED = 16, BLOCKS_NOTICED = 32, PLACES_NOTICED = 48, NOTICES = 112 };
+enum notice {
+    KINDS_NOTICED = 0, GIVEN_UP_NOTICED = 8, OPEN_NOTICED = 16, BLOCKS_NOTICED = 32, PLACES_NOTICED = 48, FRAMES_NOTICED = 112, PIECES_NOTICED = 136,
+    NOTICES = 152
+};
 void notice(unsigned number);
 void notice_place(uint8_t refusal, size_t place);
 
@@ -48,7 +51,7 @@ unsigned tell_met(void);
  * Memory to lend: each role has pages of its own between two that can't be accessed, and what is lent lies at one end of them, so that the library,
  * which is not instrumented, can neither read nor write beyond that end; octets at the other end show a write.
  */
-enum role { INPUT, OUTPUT, POOL, FIRST_NUMBERS, SECOND_NUMBERS, ROLES };
+enum role { INPUT, OUTPUT, POOL, BUFFER, FIRST_NUMBERS, SECOND_NUMBERS, ROLES };
 #define LONGEST_INPUT 70000
 #define LONGEST_OUTPUT 90000
 enum side { BEFORE_A_WALL, BEHIND_A_WALL };
@@ -94,6 +97,7 @@ void fuzz_read_record(struct input *input);
 void fuzz_read_record_file(struct input *input);
 void fuzz_run(struct input *input);
 void fuzz_any_state(struct input *input);
+void fuzz_frames(struct input *input);
 
 int LLVMFuzzerTestOneInput(const uint8_t *data, size_t size);
 

@@ -14,7 +14,7 @@ enum side side;
 
 /* Whole pages between two walls, with room for a guard beside the longest memory; and what they held when they were lent. */
 static const size_t room[ROLES] = {
-    [INPUT] = 18 * PAGE, [OUTPUT] = 23 * PAGE, [POOL] = 5 * PAGE, [FIRST_NUMBERS] = PAGE, [SECOND_NUMBERS] = PAGE,
+    [INPUT] = 18 * PAGE, [OUTPUT] = 23 * PAGE, [POOL] = 5 * PAGE, [BUFFER] = 3 * PAGE, [FIRST_NUMBERS] = PAGE, [SECOND_NUMBERS] = PAGE,
 };
 static uint8_t *pages[ROLES], *copies[ROLES];
 

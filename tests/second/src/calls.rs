@@ -2,11 +2,12 @@
 //!
 //! Every call is made twice on equal memory, once by the library and once by
 //! this program's own functions; then the numbers returned and the whole of
-//! both memories must be the same. The lanes' functions, to which a state goes
-//! by value, are compared in runs of calls.
+//! both memories must be the same. The functions of lanes and frames, to which a
+//! state goes by value, are compared in runs of calls.
 
 mod both_ways;
 mod checker;
+pub mod frames;
 mod functions;
 mod inputs;
 pub mod lanes;
@@ -32,7 +33,7 @@ use functions::write_space::WriteSpace;
 /// The calls that begin with one function.
 type Part = fn(&mut Checker<'_>) -> Result<(), String>;
 
-const PARTS: [Part; 8] = [
+const PARTS: [Part; 11] = [
     write_spaces,
     write_encaps,
     read_packets,
@@ -41,6 +42,9 @@ const PARTS: [Part; 8] = [
     read_files,
     lanes::runs,
     lanes::full_lane,
+    frames::cases,
+    frames::runs,
+    frames::staged,
 ];
 
 /// A line for each function, or the first disagreement.
@@ -58,7 +62,8 @@ pub fn compare(library: &Library) -> Result<String, String> {
         checker.summary::<ReadFile>()?,
     ];
     let ways = both_ways::summary(&checker)?;
-    Ok(functions.concat() + &ways + &lanes::summary(&checker)?)
+    let lanes = lanes::summary(&checker)?;
+    Ok(functions.concat() + &ways + &lanes + &frames::summary(&checker)?)
 }
 
 fn write_spaces(checker: &mut Checker<'_>) -> Result<(), String> {
@@ -113,6 +118,7 @@ mod tests {
             "take_packet",
             "close_lane",
             "is_sound",
+            "take_frame",
         ];
         for function in functions {
             let start = format!("{function}: ");

@@ -97,6 +97,26 @@ pub fn read(octets: &[u8]) -> Result<Packet<'_>, Fault> {
     }
 }
 
+/// The octets that the header at the front claims for its packet, be it right or
+/// wrong; nothing where the header isn't whole or is of no packet.
+pub fn claimed(octets: &[u8]) -> Option<usize> {
+    let mut bits = BitReader::new(octets);
+    match bits.take(3).ok()? {
+        0b000 => {
+            // Type, flag and APID, then flags and count.
+            bits.take(13).ok()?;
+            bits.take(16).ok()?;
+            let data_octets = bits.take(16).ok()? as usize + 1;
+            Some(bits.octets_taken() + data_octets)
+        }
+        0b111 => {
+            let header = EncapHeader::taken(&mut bits).ok()?;
+            Some(header.length.number as usize)
+        }
+        _ => None,
+    }
+}
+
 fn read_space(mut bits: BitReader<'_>) -> Result<Space<'_>, Fault> {
     let packet_type = bits.take(1)?;
     let secondary = bits.field(1)?;
@@ -448,6 +468,26 @@ mod tests {
             panic!("a good packet was refused");
         };
         assert!(std::ptr::eq(encap.content, &lent[2..5]));
+    }
+
+    #[test]
+    fn what_a_header_claims() {
+        for (text, octets) in [
+            ("00 2A C0 05 00 01", Some(8)),
+            ("00 2A C0 05 00", None),
+            ("0F FF C0 05 FF FF", Some(65_542)),
+            ("E0", Some(1)),
+            ("E9", None),
+            ("E9 05", Some(5)),
+            ("EA 13 00", None),
+            ("EA 13 20 01", Some(8_193)),
+            ("EB 00 00 00 00 01 00", None),
+            ("EB 00 00 00 00 01 00 07", Some(65_543)),
+            ("20 2A C0 05 00 01 AA BB", None),
+            ("", None),
+        ] {
+            assert_eq!(claimed(&hex::octets(text)), octets, "{text}");
+        }
     }
 
     #[test]

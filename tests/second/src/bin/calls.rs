@@ -4,12 +4,14 @@
 //! It is built with BRANMUSLIN_ARCHIVE set to the archive's whole path. It ends
 //! with status 0 and lines that count what was met, with 1 at the first
 //! disagreement, or if an answer that a function can give, a place that it can
-//! tell, a situation of the lanes or a ground against a state was hardly met.
+//! tell, a situation of lanes or frames or a ground against a state was hardly
+//! met.
 
 use std::process::ExitCode;
 
 #[cfg(archive)]
 mod archive {
+    use second::calls::frames::structs::{FramedNumbers, FramesNumbers};
     use second::calls::structs::{AnswerNumbers, ChangeNumbers, SettingsNumbers, StateNumbers};
     use second::calls::{Library, PacketNumbers, RecordNumbers};
 
@@ -100,6 +102,20 @@ mod archive {
             output: *mut u8,
             output_length: usize,
         ) -> ChangeNumbers;
+
+        fn branmuslin_fresh_frames() -> FramesNumbers;
+
+        fn branmuslin_take_frame(
+            state: FramesNumbers,
+            count: u32,
+            pointer: u32,
+            field: *const u8,
+            field_length: usize,
+            piece: *mut u8,
+            piece_length: usize,
+            output: *mut u8,
+            output_length: usize,
+        ) -> FramedNumbers;
     }
 
     pub const LIBRARY: Library = Library {
@@ -114,6 +130,8 @@ mod archive {
         open_lane: branmuslin_open_lane,
         take_packet: branmuslin_take_packet,
         close_lane: branmuslin_close_lane,
+        fresh_frames: branmuslin_fresh_frames,
+        take_frame: branmuslin_take_frame,
     };
 }
 

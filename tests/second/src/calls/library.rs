@@ -4,6 +4,7 @@
 //! functions that are right or wrong, and only the program `calls` needs an
 //! archive to link with.
 
+use super::frames::structs::{FramedNumbers, FramesNumbers};
 use super::structs::{AnswerNumbers, ChangeNumbers, SettingsNumbers, StateNumbers};
 
 /// What reading a packet tells, one number after another: version; type,
@@ -69,6 +70,21 @@ pub type TakePacket = unsafe extern "C" fn(
 pub type CloseLane =
     unsafe extern "C" fn(StateNumbers, usize, *const u8, usize, *mut u8, usize) -> ChangeNumbers;
 
+pub type FreshFrames = unsafe extern "C" fn() -> FramesNumbers;
+
+/// State, count and pointer; field, buffer and output, each with its length.
+pub type TakeFrame = unsafe extern "C" fn(
+    FramesNumbers,
+    u32,
+    u32,
+    *const u8,
+    usize,
+    *mut u8,
+    usize,
+    *mut u8,
+    usize,
+) -> FramedNumbers;
+
 #[derive(Clone, Copy)]
 pub struct Library {
     pub read_packet: ReadPacket,
@@ -82,4 +98,6 @@ pub struct Library {
     pub open_lane: OpenLane,
     pub take_packet: TakePacket,
     pub close_lane: CloseLane,
+    pub fresh_frames: FreshFrames,
+    pub take_frame: TakeFrame,
 }

@@ -1,6 +1,7 @@
 //! This program's own functions in the form in which a library exports them, to
 //! try the comparison itself.
 
+use super::frames::structs::{FramedNumbers, FramesNumbers};
 use super::functions::answered;
 use super::functions::read_packet::told;
 use super::lanes::call::{by_value, Deed};
@@ -8,6 +9,7 @@ use super::lanes::sound;
 use super::library::{Library, PacketNumbers, RecordNumbers};
 use super::structs::{AnswerNumbers, ChangeNumbers, SettingsNumbers, StateNumbers};
 use crate::forge::SpaceHead;
+use crate::frames::{Frame, Frames};
 use crate::reader::read;
 use crate::record::{self, FileRefusal, Record};
 use crate::writer::{self, EncapFields};
@@ -26,6 +28,8 @@ pub fn library() -> Library {
         open_lane,
         take_packet,
         close_lane,
+        fresh_frames,
+        take_frame,
     }
 }
 
@@ -170,4 +174,31 @@ pub unsafe extern "C" fn close_lane(
     let mut pool = slice::from_raw_parts(pool, pool_length).to_vec();
     let output = slice::from_raw_parts_mut(output, room);
     by_value(&state, (lane, &Deed::Close), (&mut pool, output)).into()
+}
+
+pub unsafe extern "C" fn fresh_frames() -> FramesNumbers {
+    Frames::default().into()
+}
+
+pub unsafe extern "C" fn take_frame(
+    state: FramesNumbers,
+    count: u32,
+    pointer: u32,
+    field: *const u8,
+    field_length: usize,
+    piece: *mut u8,
+    piece_length: usize,
+    output: *mut u8,
+    room: usize,
+) -> FramedNumbers {
+    let frame = Frame {
+        count,
+        pointer,
+        field: slice::from_raw_parts(field, field_length),
+    };
+    let buffer = slice::from_raw_parts_mut(piece, piece_length);
+    let output = slice::from_raw_parts_mut(output, room);
+    let mut frames = Frames::from(state);
+    let answer = frames.take(&frame, buffer, output);
+    FramedNumbers::of(&answer, frames)
 }

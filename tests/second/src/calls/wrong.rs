@@ -1,5 +1,6 @@
 //! Wrong versions of the functions, each of which the comparison must find.
 
+mod frames;
 mod lanes;
 mod places;
 

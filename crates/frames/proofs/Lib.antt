@@ -1,0 +1,4 @@
+pub mod Parts
+pub mod Good
+pub mod Taken
+pub mod Answers

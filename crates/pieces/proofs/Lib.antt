@@ -1,0 +1,4 @@
+pub mod Headers
+pub mod Short
+pub mod Parts
+pub mod Announced

@@ -1,0 +1,10 @@
+pub mod Beginnings
+pub mod Filled
+pub mod Stands
+pub mod Whole
+pub mod Taking
+pub mod Steps
+pub mod Calls
+pub mod Ready
+pub mod Through
+pub mod Examples

@@ -1,0 +1,4 @@
+pub mod Sent
+pub mod Received
+pub mod Recording
+pub mod Examples
