@@ -1,4 +1,6 @@
 // The Adler-32 of some octets.
+#![tactic(auto)]
+
 ghost use Rattle.std.specs.Prelude.{◌≡◌, List, ◌++◌, ℕ, ◌≤◌, ◌<◌, length};
 ghost use Rattle.adler.specs.Adler.{base, adler_from, adler};
 ghost use Rattle.adler.specs.Part.{part};

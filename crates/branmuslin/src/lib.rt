@@ -2,6 +2,8 @@
 // and where it refuses leaves everything that was lent to it as it was (but for the index that belongs to refusal 25 of a record file, and the
 // place that belongs to 1 to 7 of a packet). A slice is a pointer and a length in C; packet_type, field and out are type, data and output in the
 // header.
+#![tactic(auto)]
+
 mod numbers;
 
 ghost use Rattle.std.specs.Prelude.{◌≡◌, length};

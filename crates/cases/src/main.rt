@@ -1,5 +1,7 @@
 // The program cases: runs the lines of standard input, each of which is a case or prepares one, and prints what came. The file `stdin` beside
 // this folder has the paper's cases that are not starred, and says what each line means; so a new case is a line there.
+#![tactic(auto)]
+
 mod lane_cases;
 mod line;
 mod octet_cases;

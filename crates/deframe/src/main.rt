@@ -1,5 +1,7 @@
 // The program deframe: reads a frame file from standard input, takes its frames and prints what came of each, or `too long`; their packets go to descriptor 3, where
 // that is open. A program has no exit status in Rattle: where reading or writing fails it says so on standard error, which `./branmuslin` turns into a status.
+#![tactic(auto)]
+
 ghost use Rattle.std.specs.Prelude.{◌≤◌, length};
 ghost use Rattle.telling.specs.Lines.{line_room};
 

@@ -1,4 +1,6 @@
 // Frame files: each frame of one goes to `frames`, and a line of text says what came of it. One step a call, so that whoever calls can write the packets of each frame too.
+#![tactic(auto)]
+
 mod lines;
 
 ghost use Rattle.std.specs.Prelude.{◌≡◌, true, ◌+◌, ◌≤◌, length};

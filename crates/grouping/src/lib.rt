@@ -1,4 +1,6 @@
 // What a packet does to its lane, decided from the lane alone. Whether the other lanes leave room is asked by a plan and answered elsewhere.
+#![tactic(auto)]
+
 mod grouping;
 mod packets;
 

@@ -1,4 +1,6 @@
 // The intake's calls: open a lane, take a packet, close a lane. The state is handed in and back, the pool is lent; a refusal leaves everything as it was.
+#![tactic(auto)]
+
 mod closing;
 mod lanes;
 mod taking;

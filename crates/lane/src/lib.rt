@@ -1,4 +1,6 @@
 // One lane by itself: its settings, tallies and group, when it is fine, and what it counts for in the pool.
+#![tactic(auto)]
+
 ghost use Rattle.std.specs.Prelude.{◌≡◌, ◌&&◌, ◌||◌, ◌≤◌, eqb, ltb, leb};
 ghost use Rattle.packet.specs.Space.{counts};
 ghost use Rattle.lane.specs.Lane.{held, need, holding, illegal, tallies_possible, fine};

@@ -1,5 +1,7 @@
 // The lanes of the C library, thin over the proved ones, which include/branmuslin.h declares: the state goes in and comes back by value, and what a packet is
 // answered is told in numbers. They are a crate of their own, so that a program that only reads and writes links nothing of them.
+#![tactic(auto)]
+
 ghost use Rattle.std.specs.Prelude.{◌≡◌, length};
 ghost use Rattle.state.specs.State.{fresh_state, sound};
 ghost use Rattle.intake.specs.After.{opening, closing, closing_out, taking, taking_pool, taking_out};

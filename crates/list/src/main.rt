@@ -1,5 +1,7 @@
 // The program list: reads a recording from standard input and prints its listing, or `too long`. A program has no exit status in Rattle:
 // where reading or writing fails it says so on standard error, which `./branmuslin` turns into a status.
+#![tactic(auto)]
+
 use libc::{STDIN_FILENO, STDOUT_FILENO};
 use listing::{LONGEST, MOST_LISTED};
 

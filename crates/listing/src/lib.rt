@@ -1,4 +1,6 @@
 // The listing of some octets as text, written into a lent output.
+#![tactic(auto)]
+
 mod lines;
 
 ghost use Rattle.std.specs.Prelude.{◌≡◌, ◌≤◌, leb, length, take};

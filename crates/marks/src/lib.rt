@@ -1,4 +1,6 @@
 // The marks of the pool's blocks: whose each block is. Every function that is `pub` is total.
+#![tactic(auto)]
+
 mod table;
 
 ghost use Rattle.std.specs.Prelude.{◌≡◌, ◌+◌, drop};

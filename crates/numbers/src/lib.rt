@@ -1,4 +1,6 @@
 // Small numbers that several crates need: 1 for yes, and the smaller and the larger of two.
+#![tactic(auto)]
+
 ghost use Rattle.std.specs.Prelude.{◌≡◌, min, max};
 ghost use Rattle.octets.specs.Octets.{one};
 

@@ -1,4 +1,6 @@
 // Numbers in a slice of octets, the highest octet first. Every function is total, so no caller owes an index: past the end an octet reads as 0.
+#![tactic(auto)]
+
 ghost use Rattle.std.specs.Prelude.{◌≡◌};
 ghost use Rattle.octets.specs.Octets.{octet, be16, be32};
 

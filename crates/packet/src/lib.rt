@@ -1,4 +1,6 @@
 // What a packet is, Space or Encapsulation: the fields that reading tells, and its sizes.
+#![tactic(auto)]
+
 ghost use Rattle.std.specs.Prelude.{◌≡◌};
 ghost use Rattle.packet.specs.Told.{number_of, place_of, size_of, header_of};
 

@@ -1,5 +1,7 @@
 // What octets of a frame recording are: a piece with the octets that come after it, one packet or the beginning of one; a field from its pointer on, whole packets and what
 // is left.
+#![tactic(auto)]
+
 mod refusing;
 
 ghost use Rattle.std.specs.Prelude.{◌≡◌, cond, ◌&&◌, ◌||◌, ◌++◌, ◌+◌, eqb, ltb, leb, length, take};

@@ -1,4 +1,6 @@
 // The octets of the lanes' open groups, in the pool's blocks. Every function that is `pub` is total.
+#![tactic(auto)]
+
 mod runs;
 mod table;
 

@@ -1,4 +1,6 @@
 // Octets and numbers put into a lent output, a number's highest octet first. Every function that is `pub` is total: what does not fit is not put.
+#![tactic(auto)]
+
 ghost use Rattle.std.specs.Prelude.{◌≡◌, [], ◌∷◌, ◌+◌, ◌≤◌, leb, length};
 ghost use Rattle.octets.specs.Octets.{octets2, octets4};
 ghost use Rattle.octets.specs.Output.{put, put_if_fits};

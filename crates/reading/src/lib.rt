@@ -1,4 +1,6 @@
 // Reads one packet, Space or Encapsulation, from the front of some octets. Octets after it are not looked at.
+#![tactic(auto)]
+
 mod encapsulation;
 mod space;
 

@@ -1,4 +1,6 @@
 // Credit records: one of them read and written, and a file of them read. A record has 20 octets, high octet first.
+#![tactic(auto)]
+
 mod fields;
 
 ghost use Rattle.std.specs.Prelude.{◌≡◌, ◌*◌, ◌≤◌, length};

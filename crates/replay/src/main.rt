@@ -1,5 +1,7 @@
 // The program replay: reads a run file from standard input, makes the pool, runs each call and prints what came of it, or `too long`. A program
 // has no exit status in Rattle: where reading or writing fails it says so on standard error, which `./branmuslin` turns into a status.
+#![tactic(auto)]
+
 ghost use Rattle.std.specs.Prelude.{◌≤◌, length};
 ghost use Rattle.telling.specs.Lines.{line_room};
 

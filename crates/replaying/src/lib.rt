@@ -1,5 +1,7 @@
 // Replaying a run file: each of its calls goes to the intake, and a line of text says what came of it. The text of a run can be long, so it is
 // made in chunks.
+#![tactic(auto)]
+
 mod calls;
 mod lines;
 

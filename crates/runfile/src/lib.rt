@@ -1,4 +1,6 @@
 // Run files: the calls in them, one after another, and where a run of them stands.
+#![tactic(auto)]
+
 ghost use Rattle.std.specs.Prelude.{◌≡◌};
 ghost use Rattle.runfile.specs.Calls.{settings_in, opening_in, packet_in, closing_in, call_in};
 ghost use Rattle.runfile.specs.Start.{start};

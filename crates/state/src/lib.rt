@@ -1,4 +1,6 @@
 // The state of the intake: eight lanes that share one pool, when it is sound, and whether the lanes are within the pool.
+#![tactic(auto)]
+
 ghost use Rattle.std.specs.Prelude.{◌≡◌, ◌≤◌, leb, length, set};
 ghost use Rattle.marks.specs.Blocks.{blocks, blocks_for};
 ghost use Rattle.state.specs.State.{fresh_state, total, within, sound, unsound};

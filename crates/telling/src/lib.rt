@@ -1,5 +1,7 @@
 // The lines that the texts of runs share: one for a call, one where a run stops before its end, and the last one. As in the crate text every function is
 // total, text is cut where the output ends, and each answers the place after what it put.
+#![tactic(auto)]
+
 ghost use Rattle.std.specs.Prelude.{◌≡◌, length};
 ghost use Rattle.text.specs.Written.{reached, written};
 ghost use Rattle.telling.specs.Lines.{line, bad_line, end_line, last_lines, ready};

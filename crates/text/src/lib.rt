@@ -1,5 +1,7 @@
 // Text put into a lent output at a place. Every function is total, so no caller owes room: text is cut where the output ends. Each answers the
 // place after what it put.
+#![tactic(auto)]
+
 ghost use Rattle.std.specs.Prelude.{◌≡◌, [], ◌∷◌, ◌+◌, ◌≤◌, length};
 ghost use Rattle.octets.specs.Output.{put as puts};
 ghost use Rattle.text.specs.Text.{decimal, number, numbers};

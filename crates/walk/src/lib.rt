@@ -1,4 +1,6 @@
 // Walks a run of packets that lie one after another.
+#![tactic(auto)]
+
 ghost use Rattle.std.specs.Prelude.{◌≡◌};
 ghost use Rattle.walk.specs.Walk.{Finds, walked};
 

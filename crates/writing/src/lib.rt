@@ -1,4 +1,6 @@
 // Writes one packet, Space or Encapsulation, at the front of a lent output.
+#![tactic(auto)]
+
 mod encapsulation;
 mod space;
 
