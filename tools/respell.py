@@ -81,7 +81,10 @@ for p in paths:
                 if flat(x) == flat(y) or (x, y) in CHANCE:
                     made[x].add(y)
         else:
-            print('declarations differ in number:', p, len(a), len(b))
+            # port.py wrote some over several lines: then a name is looked for in the whole text
+            there = tokens(new[p])
+            for x in a:
+                made[x] |= {y for y in there if x[0].isalpha() and x[0] == y[0] and flat(x) == flat(y)}
 own = {x for x in made if '_' not in x and '◌' not in x}
 wanted = {x: INSTEAD.get(x, snake(x)) for x in own}
 entries = 'crates/entries/specs/Entries.antt'

@@ -46,7 +46,7 @@ use Rattle.calls.proofs.Steps.{Stepped, refuses, unread, repeats as again, stray
 use Rattle.demands.proofs.Reached.{after_sound, reached_sound}
 use Rattle.rule.proofs.Slots.{Slot}
 use Rattle.demands.proofs.View.{step_for, run_size, settled, took_reply, took_slot}
-use Rattle.demands.proofs.Followed.{lane-is, lanes-are}
+use Rattle.demands.proofs.Followed.{lane_is, lanes_are}
 use Rattle.demands.proofs.Unrefused.{gets_room}
 use Rattle.demands.proofs.Shared.{one_block, lowest_at}
 
@@ -137,10 +137,10 @@ new_to_it (since s ts) p e = repeats_same s (accepted ts) p ∙ e
 
 pub used_again : UsedAgain ours
 used_again start calls b j p out block block_is_free amiss new room due =
-    let here = lane-is start calls j in (
+    let here = lane_is start calls j in (
       gets_room start calls j p out amiss room,
       used (run ours (begun start) calls) (reached_sound start calls) (run_size (begun start) calls ∙ start.whole) b j p out block block_is_free
-          (rw here amiss) (rw here (new_to_it (past_of ours j start calls) p new)) (rw (lanes-are start calls) room)
+          (rw here amiss) (rw here (new_to_it (past_of ours j start calls) p new)) (rw (lanes_are start calls) room)
           (subst (λ (l : Lane). place_for (run ours (begun start) calls).state j p b < would_hold l p) (sym here) due),
     )
 

@@ -49,13 +49,13 @@ NeverUnpromised i x calls =
     (k : ℕ) (settings : Settings) → get_or calls k (closes i []) ≡ opens i settings → reply (run ours x (take k calls)) (opens i settings) ≡ to_opening 23 → ⊥
 
 -- and no other call is
-no-packets-reply : (x : Handed) (j : ℕ) (p out : List ℕ) → reply x (takes j p out) ≡ to_opening 23 → ⊥
+no_packets_reply : (x : Handed) (j : ℕ) (p out : List ℕ) → reply x (takes j p out) ≡ to_opening 23 → ⊥
 unfolding reply
-no-packets-reply x j p out e = let z : ◌≡◌ {A = ℕ} 0 1 = cc in omega arith
+no_packets_reply x j p out e = let z : ◌≡◌ {A = ℕ} 0 1 = cc in omega arith
 
-no-closings-reply : (x : Handed) (j : ℕ) (out : List ℕ) → reply x (closes j out) ≡ to_opening 23 → ⊥
+no_closings_reply : (x : Handed) (j : ℕ) (out : List ℕ) → reply x (closes j out) ≡ to_opening 23 → ⊥
 unfolding reply
-no-closings-reply x j out e = let z : ◌≡◌ {A = ℕ} 0 1 = cc in omega arith
+no_closings_reply x j out e = let z : ◌≡◌ {A = ℕ} 0 1 = cc in omega arith
 
 -- ---- a plan is settled alike beside others as beside none, where the lane then holds no more than its share and the share fits beside the others
 module _ (xs ys : List Lane) (i : ℕ) (same : get_or xs i closed ≡ get_or ys i closed) (fits : within xs ≡ true) (none : others ys i ≡ 0) (eight : length ys ≡ 8) where
@@ -84,7 +84,7 @@ record Alike (i : ℕ) (x y : Handed) : Type 0 where
   shared : Sound x.state
   alone : Sound y.state
   size : length x.pool ≡ 16384
-  size-alone : length y.pool ≡ 16384
+  size_alone : length y.pool ≡ 16384
   slot : slot_in x i ≡ slot_in y i
   no_other : others y.state.lanes i ≡ 0
 
@@ -96,23 +96,23 @@ module _ (i : ℕ) (x y : Handed) (k : Alike i x y) where
   Together c = (reply x c ≡ reply y c) × (slot_in (after x c) i ≡ slot_in (after y c) i)
 
   module _ (p out : List ℕ) where
-    same-decision : InShare (lane_at (after y (takes i p out)).state i) → step_for x i p out ≡ step_for y i p out
-    same-decision w =
+    same_decision : InShare (lane_at (after y (takes i p out)).state i) → step_for x i p out ≡ step_for y i p out
+    same_decision w =
         let l : Lane = lane_at y.state i in
-        let theirs : step_for y i p out ≡ settle y.state.lanes i (packet_plan l p (length out)) = settled y k.alone k.size-alone i p out in
+        let theirs : step_for y i p out ≡ settle y.state.lanes i (packet_plan l p (length out)) = settled y k.alone k.size_alone i p out in
         let then : InShare (lane_after l (settle y.state.lanes i (packet_plan l p (length out)))) =
-        subst InShare (ap (λ (v : Slot). v.lane) (took_slot y k.alone k.size-alone i p out) ∙ ap (lane_after l) theirs) w in
+        subst InShare (ap (λ (v : Slot). v.lane) (took_slot y k.alone k.size_alone i p out) ∙ ap (lane_after l) theirs) w in
         settled x k.shared k.size i p out
         ∙ ap (λ (l : Lane). settle x.state.lanes i (packet_plan l p (length out))) same_lane
         ∙ same_step x.state.lanes y.state.lanes i same_lane k.shared.room k.no_other k.alone.shape.0 p (length out) (planned l p (length out) (lane_fine y.state k.alone i)) then
         ∙ sym theirs
 
-    taken-together : InShare (lane_at (after y (takes i p out)).state i) → Together (takes i p out)
-    taken-together w =
-        let d : step_for x i p out ≡ step_for y i p out = same-decision w in
+    taken_together : InShare (lane_at (after y (takes i p out)).state i) → Together (takes i p out)
+    taken_together w =
+        let d : step_for x i p out ≡ step_for y i p out = same_decision w in
         let told : Slot → Step → Reply = λ v e. to_packet (answer_of e) (out_from v.group (user_data v.lane.settings p) e out) in (
           took_reply x i p out ∙ ap₂ told k.slot d ∙ sym (took_reply y i p out),
-          took_slot x k.shared k.size i p out ∙ ap₂ (λ (v : Slot) (e : Step). slot_after v p e) k.slot d ∙ sym (took_slot y k.alone k.size-alone i p out),
+          took_slot x k.shared k.size i p out ∙ ap₂ (λ (v : Slot) (e : Step). slot_after v p e) k.slot d ∙ sym (took_slot y k.alone k.size_alone i p out),
         )
 
   module _ (settings : Settings) where
@@ -123,9 +123,9 @@ module _ (i : ℕ) (x y : Handed) (k : Alike i x y) where
         alone_fits y.state.lanes i k.no_other (omega (arith, k.alone.shape.0, ltb-false 7 i small)) (opened_with settings)
         (omega (arith, need_open (opened_with settings) refl, none_held, law.share, law.cap))
 
-    same-opening : (opening_refusal x.state i settings 16384 ≡ 23 → ⊥) → opening_refusal x.state i settings 16384 ≡ opening_refusal y.state i settings 16384
+    same_opening : (opening_refusal x.state i settings 16384 ≡ 23 → ⊥) → opening_refusal x.state i settings 16384 ≡ opening_refusal y.state i settings 16384
     unfolding opening_refusal
-    same-opening never =
+    same_opening never =
         simp (not_unsound x.state k.shared, not_unsound y.state k.alone, same_lane)
         (either (ltb 7 i) (λ a. simp a)
         (λ a. simp a (either (lane_at y.state i).opened (λ b. simp b)
@@ -134,73 +134,73 @@ module _ (i : ℕ) (x y : Handed) (k : Alike i x y) where
         (λ d. simp d)
         (λ d. absurd (never (simp (not_unsound x.state k.shared, same_lane, a, b, c, d)))))))))))
 
-    opened-together : (reply x (opens i settings) ≡ to_opening 23 → ⊥) → Together (opens i settings)
+    opened_together : (reply x (opens i settings) ≡ to_opening 23 → ⊥) → Together (opens i settings)
     unfolding reply opening
-    opened-together never =
+    opened_together never =
         let same : opening_refusal x.state i settings (length x.pool) ≡ opening_refusal y.state i settings (length y.pool) =
-        rw (k.size, k.size-alone) (same-opening (λ e. never (ap to_opening (rw k.size e)))) in (
+        rw (k.size, k.size_alone) (same_opening (λ e. never (ap to_opening (rw k.size e)))) in (
           ap to_opening same,
           opened_slot x k.shared k.size i settings ∙ ap₂ (λ (n : ℕ) (v : Slot). unless_refused n (without (opened_with settings)) v) same k.slot
-              ∙ sym (opened_slot y k.alone k.size-alone i settings),
+              ∙ sym (opened_slot y k.alone k.size_alone i settings),
         )
 
   module _ (out : List ℕ) where
-    same-closing : closing_refusal x.state i (length x.pool) (length out) ≡ closing_refusal y.state i (length y.pool) (length out)
+    same_closing : closing_refusal x.state i (length x.pool) (length out) ≡ closing_refusal y.state i (length y.pool) (length out)
     unfolding closing_refusal
-    same-closing = rw (k.size, k.size-alone) (simp (not_unsound x.state k.shared, not_unsound y.state k.alone, same_lane))
+    same_closing = rw (k.size, k.size_alone) (simp (not_unsound x.state k.shared, not_unsound y.state k.alone, same_lane))
 
-    closed-together : Together (closes i out)
+    closed_together : Together (closes i out)
     unfolding reply closing closing_out
-    closed-together = (
-      ap₂ (λ (n : ℕ) (l : Lane). runs.to_closing n (output_after n (record_octets (credit_of l)) out)) same-closing same_lane,
-      closed_slot x k.shared k.size i out ∙ ap₂ (λ (n : ℕ) (v : Slot). unless_refused n (without closed) v) same-closing k.slot
-          ∙ sym (closed_slot y k.alone k.size-alone i out),
+    closed_together = (
+      ap₂ (λ (n : ℕ) (l : Lane). runs.to_closing n (output_after n (record_octets (credit_of l)) out)) same_closing same_lane,
+      closed_slot x k.shared k.size i out ∙ ap₂ (λ (n : ℕ) (v : Slot). unless_refused n (without closed) v) same_closing k.slot
+          ∙ sym (closed_slot y k.alone k.size_alone i out),
     )
 
 -- a call of the source itself, in its share, and with its share promised
 together : (x y : Handed) (c : Call) (k : Alike (lane_of c) x y) → InShare (lane_at (after y c).state (lane_of c)) → (reply x c ≡ to_opening 23 → ⊥) → Together (lane_of c) x y k c
-together x y (opens i settings) k w never = opened-together i x y k settings never
-together x y (takes i p out) k w never = taken-together i x y k p out w
-together x y (closes i out) k w never = closed-together i x y k out
+together x y (opens i settings) k w never = opened_together i x y k settings never
+together x y (takes i p out) k w never = taken_together i x y k p out w
+together x y (closes i out) k w never = closed_together i x y k out
 
 -- its own calls open no other lane
-still-no-other : (y : Handed) (c : Call) → others (after y c).state.lanes (lane_of c) ≡ others y.state.lanes (lane_of c)
+still_no_other : (y : Handed) (c : Call) → others (after y c).state.lanes (lane_of c) ≡ others y.state.lanes (lane_of c)
 unfolding after opening closing taking
-still-no-other y (opens i settings) = unless (λ (t : State). others t.lanes i ≡ others y.state.lanes i) (opening_refusal y.state i settings (length y.pool)) refl (λ e. others_same y.state.lanes i _)
-still-no-other y (takes i p out) = others_same y.state.lanes i _
-still-no-other y (closes i out) = unless (λ (t : State). others t.lanes i ≡ others y.state.lanes i) (closing_refusal y.state i (length y.pool) (length out)) refl (λ e. others_same y.state.lanes i _)
+still_no_other y (opens i settings) = unless (λ (t : State). others t.lanes i ≡ others y.state.lanes i) (opening_refusal y.state i settings (length y.pool)) refl (λ e. others_same y.state.lanes i _)
+still_no_other y (takes i p out) = others_same y.state.lanes i _
+still_no_other y (closes i out) = unless (λ (t : State). others t.lanes i ≡ others y.state.lanes i) (closing_refusal y.state i (length y.pool) (length out)) refl (λ e. others_same y.state.lanes i _)
 
 module _ (i : ℕ) where
-  own-call : (x y : Handed) (c : Call) → lane_of c ≡ i → Alike i x y → InShare (lane_at (after y c).state i) → (reply x c ≡ to_opening 23 → ⊥) → (reply x c ≡ reply y c) × Alike i (after x c) (after y c)
-  own-call x y c e = subst (λ (j : ℕ). Alike j x y → InShare (lane_at (after y c).state j) → (reply x c ≡ to_opening 23 → ⊥) → (reply x c ≡ reply y c) × Alike j (after x c) (after y c)) e
+  own_call : (x y : Handed) (c : Call) → lane_of c ≡ i → Alike i x y → InShare (lane_at (after y c).state i) → (reply x c ≡ to_opening 23 → ⊥) → (reply x c ≡ reply y c) × Alike i (after x c) (after y c)
+  own_call x y c e = subst (λ (j : ℕ). Alike j x y → InShare (lane_at (after y c).state j) → (reply x c ≡ to_opening 23 → ⊥) → (reply x c ≡ reply y c) × Alike j (after x c) (after y c)) e
       (λ k w never. let both = together x y c k w never in (
         both.0,
         record {
           shared = after_sound x k.shared c;
           alone = after_sound y k.alone c;
           size = after_size x c ∙ k.size;
-          size-alone = after_size y c ∙ k.size-alone;
+          size_alone = after_size y c ∙ k.size_alone;
           slot = both.1;
-          no_other = still-no-other y c ∙ k.no_other;
+          no_other = still_no_other y c ∙ k.no_other;
         },
       ))
 
-  other-call : (x y : Handed) (c : Call) → (lane_of c ≡ i → ⊥) → Alike i x y → Alike i (after x c) y
-  other-call x y c other k = record {
+  other_call : (x y : Handed) (c : Call) → (lane_of c ≡ i → ⊥) → Alike i x y → Alike i (after x c) y
+  other_call x y c other k = record {
     shared = after_sound x k.shared c;
     alone = k.alone;
     size = after_size x c ∙ k.size;
-    size-alone = k.size-alone;
+    size_alone = k.size_alone;
     slot = other_slot x k.shared k.size c i other ∙ k.slot;
     no_other = k.no_other;
   }
 
   -- no opening of the lane is replied 23 along a run; so the first call isn't
-  never-now : (x : Handed) (c : Call) (calls : List Call) → lane_of c ≡ i → NeverUnpromised i x (c ∷ calls) → reply x c ≡ to_opening 23 → ⊥
+  never_now : (x : Handed) (c : Call) (calls : List Call) → lane_of c ≡ i → NeverUnpromised i x (c ∷ calls) → reply x c ≡ to_opening 23 → ⊥
   unfolding run
-  never-now x (opens j settings) calls e never r = never 0 settings (ap (λ (m : ℕ). opens m settings) e) (subst (λ (m : ℕ). reply x (opens m settings) ≡ to_opening 23) e r)
-  never-now x (takes j p out) calls e never r = no-packets-reply x j p out r
-  never-now x (closes j out) calls e never r = no-closings-reply x j out r
+  never_now x (opens j settings) calls e never r = never 0 settings (ap (λ (m : ℕ). opens m settings) e) (subst (λ (m : ℕ). reply x (opens m settings) ≡ to_opening 23) e r)
+  never_now x (takes j p out) calls e never r = no_packets_reply x j p out r
+  never_now x (closes j out) calls e never r = no_closings_reply x j out r
 
   along : (calls : List Call) (x y : Handed) → Alike i x y → LaneInShare i y (own i calls) → NeverUnpromised i x calls → replies_to ours i x calls ≡ replies ours y (own i calls)
   unfolding own replies_to replies run
@@ -209,9 +209,9 @@ module _ (i : ℕ) where
       either (names i c)
       (λ e.
       let w' : LaneInShare i y (c ∷ own i calls) = simp e at w in
-      let both = own-call x y c (eqb-true (lane_of c) i e) k (w' 1) (never-now x c calls (eqb-true (lane_of c) i e) never) in
+      let both = own_call x y c (eqb-true (lane_of c) i e) k (w' 1) (never_now x c calls (eqb-true (lane_of c) i e) never) in
       simp e (ap₂ (λ (r : Reply) (rs : List Reply). r ∷ rs) both.0 (along calls (after x c) (after y c) both.1 (λ n. w' (suc n)) (λ m. never (suc m)))))
-      (λ e. simp e (along calls (after x c) y (other-call x y c (eqb-false (lane_of c) i e) k) (simp e at w) (λ m. never (suc m))))
+      (λ e. simp e (along calls (after x c) y (other_call x y c (eqb-false (lane_of c) i e) k) (simp e at w) (λ m. never (suc m))))
 
 -- ---- at the fresh start the lane is closed in both, whatever lies in the pools
 all_closed : (n i : ℕ) → get_or (replicate n closed) i closed ≡ closed
@@ -219,21 +219,21 @@ all_closed zero i = refl
 all_closed (suc n) zero = refl
 all_closed (suc n) (suc i) = all_closed n i
 
-pub begun-slot : (start : Start) (i : ℕ) → slot_in (begun start) i ≡ without closed
+pub begun_slot : (start : Start) (i : ℕ) → slot_in (begun start) i ≡ without closed
 unfolding fresh_state gathered
-begun-slot start i = rw (all_closed 8 i)
+begun_slot start i = rw (all_closed 8 i)
 
-pub alike-replies : (i : ℕ) (calls : List Call) (shared alone : Start) → LaneInShare i (begun alone) (own i calls) → NeverUnpromised i (begun shared) calls
+pub alike_replies : (i : ℕ) (calls : List Call) (shared alone : Start) → LaneInShare i (begun alone) (own i calls) → NeverUnpromised i (begun shared) calls
     → replies_to ours i (begun shared) calls ≡ replies ours (begun alone) (own i calls)
 unfolding fresh_state
-alike-replies i calls shared alone w never =
+alike_replies i calls shared alone w never =
     along i calls (begun shared) (begun alone)
     (record {
       shared = fresh;
       alone = fresh;
       size = shared.whole;
-      size-alone = alone.whole;
-      slot = begun-slot shared i ∙ sym (begun-slot alone i);
+      size_alone = alone.whole;
+      slot = begun_slot shared i ∙ sym (begun_slot alone i);
       no_other = none_beside (replicate 8 closed) i (λ j h other. all_closed 8 j);
     })
     w never

@@ -29,7 +29,7 @@ use Rattle.rule.proofs.Slots.{Slot}
 use Rattle.demands.specs.Runs.{encapsulation_wrote, ours}
 use Rattle.demands.specs.Demand2.{Agrees, SpaceGivenBack, EncapsulationGivenBack, HeaderIsShortest, RecordGivenBack, Possible, file_of, FileGivenBack, SpaceWrittenAgain, EncapsulationWrittenAgain, RecordWrittenAgain}
 use Rattle.demands.specs.Demand2.{RepliesAreTheRules, LanesAreTheRules, Demand2}
-use Rattle.demands.proofs.Followed.{reached-at, reply-is}
+use Rattle.demands.proofs.Followed.{reached_at, reply_is}
 
 agrees : Agrees ours
 agrees = record {
@@ -167,11 +167,11 @@ encapsulation_written_again s out small e v fits =
 
 -- ---- the rule
 replies_are_the_rules : RepliesAreTheRules ours
-replies_are_the_rules = reply-is
+replies_are_the_rules = reply_is
 
 lanes_are_the_rules : LanesAreTheRules ours
 lanes_are_the_rules start calls i =
-    let e = (reached-at i start calls).slot in
+    let e = (reached_at i start calls).slot in
     (ap (λ (v : Slot). v.lane) e, ap (λ (v : Slot). v.group) e)
 
 pub demand2 : Demand2 ours

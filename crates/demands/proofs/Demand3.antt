@@ -7,16 +7,16 @@ use Rattle.demands.specs.Runs.{ours, begun, opens, number_in, own}
 use Rattle.demands.specs.Demand3.{AsAlone, StaysSound, Demand3}
 use Rattle.calls.proofs.Sound.{sound_is}
 use Rattle.demands.proofs.Reached.{reached_sound}
-use Rattle.demands.proofs.Alone.{alike-replies}
+use Rattle.demands.proofs.Alone.{alike_replies}
 use Rattle.demands.proofs.View.{run_size}
-use Rattle.demands.proofs.Followed.{lane-is, number_is}
+use Rattle.demands.proofs.Followed.{lane_is, number_is}
 use Rattle.demands.proofs.Unrefused.{room_in_share, opens_if_fine, closes_if_fine}
 use Rattle.demands.proofs.Shared.{within_cap, no_block_in_two, none_lost}
 use Rattle.demands.proofs.Again.{writes_in_its_own, used_again}
 
 as_alone : AsAlone ours
 as_alone i calls shared alone within never =
-    alike-replies i calls shared alone (λ k. rw (lane-is alone (take k (own i calls)) i) (within k))
+    alike_replies i calls shared alone (λ k. rw (lane_is alone (take k (own i calls)) i) (within k))
     (λ k settings e r. never k settings e (sym (number_is shared (take k calls) (opens i settings)) ∙ ap number_in r) r)
 
 stays_sound : StaysSound ours

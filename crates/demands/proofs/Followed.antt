@@ -44,32 +44,32 @@ use Rattle.calls.proofs.Sound.{Sound, not_unsound, fresh, lane_fine}
 use Rattle.calls.proofs.Order.{ordered}
 use Rattle.demands.proofs.Reached.{after_sound}
 use Rattle.demands.proofs.View.{slot_in, step_for, after_size, took_reply, settled, took_slot, opened_slot, closed_slot, other_slot}
-use Rattle.demands.proofs.Alone.{begun-slot}
+use Rattle.demands.proofs.Alone.{begun_slot}
 
 -- a lane with its group, by its past
-abbrev pub slotFrom : Past → Slot
-slotFrom past = record { lane = lane_from past; group = octets_in (group (accepted_in past)) }
+abbrev pub slot_from : Past → Slot
+slot_from past = record { lane = lane_from past; group = octets_in (group (accepted_in past)) }
 
 -- after a call that was replied r the lane is v: it is its past's, the reply is the rule's unless it refuses, and how often Unit was answered since the opening
 -- is how many packets ended one
 pub record Follows (past : Past) (c : Call) (v : Slot) (r : Reply) : Type 0 where
-  pub slot : v ≡ slotFrom (later past c r)
+  pub slot : v ≡ slot_from (later past c r)
   pub word : r ≡ cond (eqb (number_in r) 0) (by.ruled past c) (refused_with (number_in r) c)
   pub told : units_told_after (units (accepted_in past)) c r ≡ units (accepted_in (later past c r))
 
 -- ---- an opening and a closing of the past's lane, by their refusals
 module _ (past : Past) (i refusal : ℕ) where
-  opening-follows : (settings : Settings) → Follows past (opens i settings) (unless_refused refusal (without (opened_with settings)) (slotFrom past)) (to_opening refusal)
+  opening_follows : (settings : Settings) → Follows past (opens i settings) (unless_refused refusal (without (opened_with settings)) (slot_from past)) (to_opening refusal)
   unfolding accepted group endings missing_in_all broken last_count
-  opening-follows settings =
+  opening_follows settings =
       either (eqb refusal 0)
       (λ e. let z : refusal ≡ 0 = eqb-true refusal 0 e in rw z (record { slot = refl; word = refl; told = refl }))
       (λ e. record { slot = simp e; word = simp e; told = simp e })
 
-  closing-follows : (out : List ℕ)
-      → Follows past (closes i out) (unless_refused refusal (without closed) (slotFrom past)) (to_closing refusal (output_after refusal (record_octets (credit_of (lane_from past))) out))
+  closing_follows : (out : List ℕ)
+      → Follows past (closes i out) (unless_refused refusal (without closed) (slot_from past)) (to_closing refusal (output_after refusal (record_octets (credit_of (lane_from past))) out))
   unfolding output_after group endings missing_in_all broken one
-  closing-follows out =
+  closing_follows out =
       either (eqb refusal 0)
       (λ e. let z : refusal ≡ 0 = eqb-true refusal 0 e in rw z (record { slot = refl; word = same past; told = refl }))
       (λ e. record { slot = simp e; word = simp e; told = simp e })
@@ -80,28 +80,28 @@ module _ (past : Past) (i refusal : ℕ) where
 
 -- ---- a packet
 -- what the rule's word tells: no refusal, and Unit where it makes a unit
-word-tells : (u g : Option (List ℕ)) (m : ℕ) (givenUp : Bool) → (leading (told (answer_with u g m givenUp)) ≡ 0) × (eqb (kind_of (answer_with u g m givenUp)) unit_kind ≡ present u)
-word-tells (some octets) g m givenUp = (refl, refl)
-word-tells none (some octets) m givenUp = (refl, refl)
-word-tells none none m givenUp = (refl, refl)
+word_tells : (u g : Option (List ℕ)) (m : ℕ) (givenUp : Bool) → (leading (told (answer_with u g m givenUp)) ≡ 0) × (eqb (kind_of (answer_with u g m givenUp)) unit_kind ≡ present u)
+word_tells (some octets) g m givenUp = (refl, refl)
+word_tells none (some octets) m givenUp = (refl, refl)
+word_tells none none m givenUp = (refl, refl)
 
 -- what is replied after the step d
-abbrev replyAfter : Past → List ℕ → List ℕ → Step → Reply
-replyAfter past p out d = to_packet (answer_of d) (out_from (octets_in (group (accepted_in past))) (user_data (lane_from past).settings p) d out)
+abbrev reply_after : Past → List ℕ → List ℕ → Step → Reply
+reply_after past p out d = to_packet (answer_of d) (out_from (octets_in (group (accepted_in past))) (user_data (lane_from past).settings p) d out)
 
 abbrev Steps : Past → ℕ → List ℕ → List ℕ → Step → Type 0
-Steps past i p out d = Follows past (takes i p out) (slot_after (slotFrom past) p d) (replyAfter past p out d)
+Steps past i p out d = Follows past (takes i p out) (slot_after (slot_from past) p d) (reply_after past p out d)
 
-refused-follows : (past : Past) (i : ℕ) (p out : List ℕ) (k : ℕ) → 8 ≤ k → Steps past i p out (step.Refuse k)
+refused_follows : (past : Past) (i : ℕ) (p out : List ℕ) (k : ℕ) → 8 ≤ k → Steps past i p out (step.Refuse k)
 unfolding lane_after one
-refused-follows past i p out k high =
+refused_follows past i p out k high =
     let e = ne_eqb k 0 (λ z. omega arith) in
     record { slot = simp e; word = simp (e, lt-leb k 7 (omega arith)); told = simp e (omega arith) }
 
 -- the reader's number is one of 1 to 7, and its place the one that belongs to it
-unread-follows : (past : Past) (i : ℕ) (p out : List ℕ) → (refusal p ≡ 0 → ⊥) → Steps past i p out (step.Unread (refusal p) (place p))
+unread_follows : (past : Past) (i : ℕ) (p out : List ℕ) → (refusal p ≡ 0 → ⊥) → Steps past i p out (step.Unread (refusal p) (place p))
 unfolding lane_after one place
-unread-follows past i p out some' =
+unread_follows past i p out some' =
     let e = ne_eqb (refusal p) 0 some' in
     record { slot = simp e; word = simp (e, le-leb (refusal p) 7 (refusal_most p)); told = simp e (omega arith) }
 
@@ -112,14 +112,14 @@ module _ (s : Settings) (ts : List Taken) (i : ℕ) (p out : List ℕ) where
   abbrev q : Taken
   q = taken_of s p
 
-  packet-follows : {d : Step} → ruled.Follows s ps p out d → Steps (since s ts) i p out d
+  packet_follows : {d : Step} → ruled.Follows s ps p out d → Steps (since s ts) i p out d
   unfolding lane_after accepted one answer_to
-  packet-follows (ruled.refuses k high) = refused-follows (since s ts) i p out k high
-  packet-follows (ruled.unread some') = unread-follows (since s ts) i p out some'
-  packet-follows (ruled.repeats_it e) = record { slot = simp e; word = simp e; told = simp e (omega arith) }
-  packet-follows (ruled.accepts d new slot answer output) =
-      let t = word-tells (unit ps q) (group (q ∷ ps)) (missing ps q) (gives_up ps q) in
-      let same : replyAfter (since s ts) p out d ≡ to_packet (answer_to ps q) (with_unit out (unit ps q)) = ap₂ to_packet answer output in
+  packet_follows (ruled.refuses k high) = refused_follows (since s ts) i p out k high
+  packet_follows (ruled.unread some') = unread_follows (since s ts) i p out some'
+  packet_follows (ruled.repeats_it e) = record { slot = simp e; word = simp e; told = simp e (omega arith) }
+  packet_follows (ruled.accepts d new slot answer output) =
+      let t = word_tells (unit ps q) (group (q ∷ ps)) (missing ps q) (gives_up ps q) in
+      let same : reply_after (since s ts) p out d ≡ to_packet (answer_to ps q) (with_unit out (unit ps q)) = ap₂ to_packet answer output in
       rw same
       (record {
         slot = simp (t.0, new) slot;
@@ -128,60 +128,60 @@ module _ (s : Settings) (ts : List Taken) (i : ℕ) (p out : List ℕ) where
       })
 
 -- ---- a call, where the lane that it names is its past's
-of-past : (past : Past) (i : ℕ) (p out : List ℕ) (ls : List Lane) → (lane_from past).last < counts → Steps past i p out (settle ls i (packet_plan (lane_from past) p (length out)))
+of_past : (past : Past) (i : ℕ) (p out : List ℕ) (ls : List Lane) → (lane_from past).last < counts → Steps past i p out (settle ls i (packet_plan (lane_from past) p (length out)))
 unfolding packet_plan settle
-of-past shut i p out ls few = refused-follows shut i p out 11 (omega arith)
-of-past (since s ts) i p out ls few = packet-follows s ts i p out (planned s (accepted ts) few p out ls i)
+of_past shut i p out ls few = refused_follows shut i p out 11 (omega arith)
+of_past (since s ts) i p out ls few = packet_follows s ts i p out (planned s (accepted ts) few p out ls i)
 
 module _ (x : Handed) (k : Sound x.state) (size : length x.pool ≡ 16384) (past : Past) where
-  pub call-follows : (c : Call) → slot_in x (lane_of c) ≡ slotFrom past → Follows past c (slot_in (after x c) (lane_of c)) (reply x c)
+  pub call_follows : (c : Call) → slot_in x (lane_of c) ≡ slot_from past → Follows past c (slot_in (after x c) (lane_of c)) (reply x c)
   unfolding reply opening closing closing_out
-  call-follows (opens i settings) e = rw (opened_slot x k size i settings, e) (opening-follows past i (opening_refusal x.state i settings (length x.pool)) settings)
-  call-follows (closes i out) e =
-      rw (closed_slot x k size i out, e, ap (λ (v : Slot). v.lane) e) (closing-follows past i (closing_refusal x.state i (length x.pool) (length out)) out)
-  call-follows (takes i p out) e =
+  call_follows (opens i settings) e = rw (opened_slot x k size i settings, e) (opening_follows past i (opening_refusal x.state i settings (length x.pool)) settings)
+  call_follows (closes i out) e =
+      rw (closed_slot x k size i out, e, ap (λ (v : Slot). v.lane) e) (closing_follows past i (closing_refusal x.state i (length x.pool) (length out)) out)
+  call_follows (takes i p out) e =
       let few = (is_fine (lane_at x.state i) (lane_fine x.state k i)).last in
       rw (took_slot x k size i p out, took_reply x i p out, settled x k size i p out)
       (subst (λ (v : Slot). v.lane.last < counts → Follows past (takes i p out) (slot_after v p (settle x.state.lanes i (packet_plan v.lane p (length out))))
       (to_packet (answer_of (settle x.state.lanes i (packet_plan v.lane p (length out)))) (out_from v.group (user_data v.lane.settings p) (settle x.state.lanes i (packet_plan v.lane p (length out))) out)))
-      (sym e) (of-past past i p out x.state.lanes) few)
+      (sym e) (of_past past i p out x.state.lanes) few)
 
   -- ---- it is refused exactly for the paper's causes, judged on the lanes
-  step-number : (d : Step) → leading (told (answer_of d)) ≡ refusal_of d
-  step-number (step.Refuse n) = refl
-  step-number (step.Unread n q) = refl
-  step-number step.Repeat = refl
-  step-number (step.Stray a) = refl
-  step-number (step.Hold a on n) = refl
-  step-number (step.Unit a on n) = refl
+  step_number : (d : Step) → leading (told (answer_of d)) ≡ refusal_of d
+  step_number (step.Refuse n) = refl
+  step_number (step.Unread n q) = refl
+  step_number step.Repeat = refl
+  step_number (step.Stray a) = refl
+  step_number (step.Hold a on n) = refl
+  step_number (step.Unit a on n) = refl
 
-  pub call-number : (c : Call) → number_in (reply x c) ≡ first 0 (numbers_of (causes x.state.lanes c))
+  pub call_number : (c : Call) → number_in (reply x c) ≡ first 0 (numbers_of (causes x.state.lanes c))
   unfolding reply opening opening_refusal closing closing_refusal taking
-  call-number (opens i settings) = rw size (simp (not_unsound x.state k))
-  call-number (closes i out) = rw size (simp (not_unsound x.state k))
-  call-number (takes i p out) =
-      step-number (step_for x i p out) ∙ ordered x.state k.shape i p (length x.pool) (length out) ∙ rw size (simp (not_unsound x.state k))
+  call_number (opens i settings) = rw size (simp (not_unsound x.state k))
+  call_number (closes i out) = rw size (simp (not_unsound x.state k))
+  call_number (takes i p out) =
+      step_number (step_for x i p out) ∙ ordered x.state k.shape i p (length x.pool) (length out) ∙ rw size (simp (not_unsound x.state k))
 
 -- ---- what holds of lane i along a run: n is how often it was answered Unit since its opening
 pub record At (i : ℕ) (x : Handed) (past : Past) (n : ℕ) : Type 0 where
   pub sound : Sound x.state
   pub size : length x.pool ≡ 16384
-  pub slot : slot_in x i ≡ slotFrom past
+  pub slot : slot_in x i ≡ slot_from past
   pub told : n ≡ units (accepted_in past)
 
 module _ (i : ℕ) where
-  begun-at : (start : Start) → At i (begun start) shut 0
+  begun_at : (start : Start) → At i (begun start) shut 0
   unfolding endings group
-  begun-at start = record { sound = fresh; size = start.whole; slot = begun-slot start i; told = refl }
+  begun_at start = record { sound = fresh; size = start.whole; slot = begun_slot start i; told = refl }
 
   module _ (x : Handed) (past : Past) (n : ℕ) (h : At i x past n) (c : Call) where
-    of-own : lane_of c ≡ i → At i (after x c) (later past c (reply x c)) (units_told_after n c (reply x c))
-    of-own e =
-        let f : Follows past c (slot_in (after x c) (lane_of c)) (reply x c) = call-follows x h.sound h.size past c (rw e h.slot) in
+    of_own : lane_of c ≡ i → At i (after x c) (later past c (reply x c)) (units_told_after n c (reply x c))
+    of_own e =
+        let f : Follows past c (slot_in (after x c) (lane_of c)) (reply x c) = call_follows x h.sound h.size past c (rw e h.slot) in
         record {
           sound = after_sound x h.sound c;
           size = after_size x c ∙ h.size;
-          slot = subst (λ (j : ℕ). slot_in (after x c) j ≡ slotFrom (later past c (reply x c))) e f.slot;
+          slot = subst (λ (j : ℕ). slot_in (after x c) j ≡ slot_from (later past c (reply x c))) e f.slot;
           told = rw h.told f.told;
         }
 
@@ -193,31 +193,31 @@ module _ (i : ℕ) where
       told = h.told;
     }
 
-    after-at : At i (after x c) (cond (names i c) (later past c (reply x c)) past) (cond (names i c) (units_told_after n c (reply x c)) n)
-    after-at = either (names i c) (λ e. simp e (of-own (eqb-true _ _ e))) (λ e. simp e (of_another (eqb-false _ _ e)))
+    after_at : At i (after x c) (cond (names i c) (later past c (reply x c)) past) (cond (names i c) (units_told_after n c (reply x c)) n)
+    after_at = either (names i c) (λ e. simp e (of_own (eqb-true _ _ e))) (λ e. simp e (of_another (eqb-false _ _ e)))
 
   run_at : (x : Handed) (past : Past) (n : ℕ) → At i x past n → (calls : List Call) → At i (run ours x calls) (past_from ours i past x calls) (units_told_from i n x calls)
   unfolding run past_from units_told_from
   run_at x past n h [] = h
-  run_at x past n h (c ∷ calls) = run_at (after x c) _ _ (after-at x past n h c) calls
+  run_at x past n h (c ∷ calls) = run_at (after x c) _ _ (after_at x past n h c) calls
 
-  pub reached-at : (start : Start) (calls : List Call) → At i (run ours (begun start) calls) (past_of ours i start calls) (units_told_from i 0 (begun start) calls)
-  reached-at start calls = run_at (begun start) shut 0 (begun-at start) calls
+  pub reached_at : (start : Start) (calls : List Call) → At i (run ours (begun start) calls) (past_of ours i start calls) (units_told_from i 0 (begun start) calls)
+  reached_at start calls = run_at (begun start) shut 0 (begun_at start) calls
 
 -- ---- so the lanes are those of their pasts
 -- a list by its elements
-lanesBy : (ℕ → Lane) → ℕ → List Lane
-lanesBy f zero = []
-lanesBy f (suc n) = f 0 ∷ lanesBy (λ i. f (suc i)) n
+lanes_by : (ℕ → Lane) → ℕ → List Lane
+lanes_by f zero = []
+lanes_by f (suc n) = f 0 ∷ lanes_by (λ i. f (suc i)) n
 
-listed : (ls : List Lane) → ls ≡ lanesBy (λ i. get_or ls i closed) (length ls)
-unfolding lanesBy
+listed : (ls : List Lane) → ls ≡ lanes_by (λ i. get_or ls i closed) (length ls)
+unfolding lanes_by
 listed [] = refl
 listed (l ∷ ls) = ap (λ (rest : List Lane). l ∷ rest) (listed ls)
 
-eight-lanes : (ls : List Lane) (past : ℕ → Past) → length ls ≡ 8 → ((i : ℕ) → get_or ls i closed ≡ lane_from (past i)) → ls ≡ lanes_from past
-unfolding lanesBy
-eight-lanes ls past eight same = listed ls ∙ ap (lanesBy (λ i. get_or ls i closed)) eight ∙ (λ j. lanesBy (λ i. same i j) 8)
+eight_lanes : (ls : List Lane) (past : ℕ → Past) → length ls ≡ 8 → ((i : ℕ) → get_or ls i closed ≡ lane_from (past i)) → ls ≡ lanes_from past
+unfolding lanes_by
+eight_lanes ls past eight same = listed ls ∙ ap (lanes_by (λ i. get_or ls i closed)) eight ∙ (λ j. lanes_by (λ i. same i j) 8)
 
 module _ (start : Start) (calls : List Call) where
   abbrev x : Handed
@@ -226,19 +226,19 @@ module _ (start : Start) (calls : List Call) where
   abbrev past : ℕ → Past
   past i = past_of ours i start calls
 
-  pub lane-is : (i : ℕ) → lane_at x.state i ≡ lane_from (past i)
-  lane-is i = ap (λ (v : Slot). v.lane) (reached-at i start calls).slot
+  pub lane_is : (i : ℕ) → lane_at x.state i ≡ lane_from (past i)
+  lane_is i = ap (λ (v : Slot). v.lane) (reached_at i start calls).slot
 
-  pub lanes-are : x.state.lanes ≡ lanes_from past
-  lanes-are = eight-lanes x.state.lanes past (reached-at 0 start calls).sound.shape.0 lane-is
+  pub lanes_are : x.state.lanes ≡ lanes_from past
+  lanes_are = eight_lanes x.state.lanes past (reached_at 0 start calls).sound.shape.0 lane_is
 
   pub number_is : (c : Call) → number_in (reply x c) ≡ first 0 (numbers_of (causes (lanes_from past) c))
   number_is c =
-      let h = reached-at (lane_of c) start calls in
-      call-number x h.sound h.size (past (lane_of c)) c ∙ ap (λ (ls : List Lane). first 0 (numbers_of (causes ls c))) lanes-are
+      let h = reached_at (lane_of c) start calls in
+      call_number x h.sound h.size (past (lane_of c)) c ∙ ap (λ (ls : List Lane). first 0 (numbers_of (causes ls c))) lanes_are
 
-  pub reply-is : (c : Call) → reply x c ≡ reply_by past c
-  reply-is c =
-      let h = reached-at (lane_of c) start calls in
-      (call-follows x h.sound h.size (past (lane_of c)) c h.slot).word
+  pub reply_is : (c : Call) → reply x c ≡ reply_by past c
+  reply_is c =
+      let h = reached_at (lane_of c) start calls in
+      (call_follows x h.sound h.size (past (lane_of c)) c h.slot).word
       ∙ ap (λ (n : ℕ). cond (eqb n 0) (by.ruled (past (lane_of c)) c) (refused_with n c)) (number_is c)

@@ -15,7 +15,7 @@ use Rattle.demands.specs.Runs.{ours, Handed, begun, closes, run}
 use Rattle.demands.specs.Past.{Past, shut, since, settings_of, accepted_in, lane_from, past_of}
 use Rattle.demands.specs.Laws.{CreditNeeds, Laws}
 use Rattle.calls.proofs.Sound.{lane_fine}
-use Rattle.demands.proofs.Followed.{reached-at, call-follows, lane-is}
+use Rattle.demands.proofs.Followed.{reached_at, call_follows, lane_is}
 use Rattle.demands.proofs.InShare.{each_in_share_stays}
 use Rattle.demands.proofs.Unrefused.{gets_room, repeats_change_nothing}
 use Rattle.demands.proofs.Shared.{only_its_own, freed, takes_lowest}
@@ -35,9 +35,9 @@ credit_needs_units : (n : ℕ) → CreditNeeds n
 credit_needs_units n start calls i out credited e told =
     let x : Handed = run ours (begun start) calls in
     let past : Past = past_of ours i start calls in
-    let h = reached-at i start calls in
-    let few = few_units past (subst Tallies (lane-is start calls i) (is_fine (lane_at x.state i) (lane_fine x.state h.sound i)).tallies) in
-    let word = rw e at (call-follows x h.sound h.size past (closes i out) h.slot).word in
+    let h = reached_at i start calls in
+    let few = few_units past (subst Tallies (lane_is start calls i) (is_fine (lane_at x.state i) (lane_fine x.state h.sound i)).tallies) in
+    let word = rw e at (call_follows x h.sound h.size past (closes i out) h.slot).word in
     let written : credited ≡ put out 0 (record_octets (credit (settings_of past) (accepted_in past))) = cc in
     let same : units (accepted_in past) ≡ n = sym (units_written (credit (settings_of past) (accepted_in past)) out (omega (arith, few.0, few.1))) ∙ ap (λ (o : List ℕ). (record_in o).units) (sym written) ∙ told in
     (same, omega (arith, same, few.0), h.told ∙ same)

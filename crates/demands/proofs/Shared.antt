@@ -50,7 +50,7 @@ use Rattle.calls.proofs.Steps.{Stepped, stepped, group_grows}
 use Rattle.calls.proofs.Steps as now
 use Rattle.demands.proofs.Reached.{after_sound, reached_sound}
 use Rattle.calls.proofs.Groups.{has_places}
-use Rattle.demands.proofs.Followed.{lane-is, lanes-are}
+use Rattle.demands.proofs.Followed.{lane_is, lanes_are}
 use Rattle.demands.proofs.Moves.{grown_marked, call_moves, none_belongs, freed_released}
 
 -- ---- No source ever holds more than its cap
@@ -58,7 +58,7 @@ pub within_cap : WithinCap ours
 within_cap start calls i small =
     let s : State = (run ours (begun start) calls).state in
     let k : Sound s = reached_sound start calls in
-    rw (← lane-is start calls i) ((just_its_blocks s k i small).0, (is_fine (lane_at s i) (lane_fine s k i)).within)
+    rw (← lane_is start calls i) ((just_its_blocks s k i small).0, (is_fine (lane_at s i) (lane_fine s k i)).within)
 
 -- ---- No block belongs to two sources
 -- a lane with octets is one of the eight
@@ -88,7 +88,7 @@ one_block s k i j q r hq hr =
     )
 
 pub no_block_in_two : NoBlockInTwo ours
-no_block_in_two start calls i j q r = rw (← lane-is start calls i, ← lane-is start calls j) (one_block (run ours (begun start) calls).state (reached_sound start calls) i j q r)
+no_block_in_two start calls i j q r = rw (← lane_is start calls i, ← lane_is start calls j) (one_block (run ours (begun start) calls).state (reached_sound start calls) i j q r)
 
 -- ---- no sequence of calls loses a block
 pub none_lost : NoneLost ours
@@ -96,7 +96,7 @@ none_lost start calls =
     let s : State = (run ours (begun start) calls).state in
     let k : Sound s = reached_sound start calls in (
       λ b h. ⊎_elim inl (λ (p : HeldPlace s (mark_at s b)). inr (p.lane, (h, p.small, omega (arith, p.bears, p.holds, (held_most (lane_at s p.lane) (lane_fine s k p.lane)).0)))) (free_or_held s k b h),
-      ap (λ (ls : List Lane). count is_free s.marks + sum (map held ls)) (sym (lanes-are start calls)) ∙ (matched s.marks (map held s.lanes) k.shape.1 (length-map s.lanes held ∙ k.shape.0) k.marks).whole,
+      ap (λ (ls : List Lane). count is_free s.marks + sum (map held ls)) (sym (lanes_are start calls)) ∙ (matched s.marks (map held s.lanes) k.shape.1 (length-map s.lanes held ∙ k.shape.0) k.marks).whole,
     )
 
 -- ---- a call moves blocks only between the free ones and its lane's

@@ -40,7 +40,7 @@ use Rattle.calls.proofs.Room.{room_in_share as has_room}
 use Rattle.demands.proofs.Reached.{reached_sound}
 use Rattle.demands.proofs.View.{step_for, run_size, settled, took_reply}
 use Rattle.calls.proofs.Laws.{repeat_leaves}
-use Rattle.demands.proofs.Followed.{lane-is, lanes-are}
+use Rattle.demands.proofs.Followed.{lane_is, lanes_are}
 
 -- ---- a step that is no refusal
 abbrev Taken : Step → Type 0
@@ -136,21 +136,21 @@ module _ (start : Start) (calls : List Call) (i : ℕ) (packet out : List ℕ) w
 -- the lanes are those of their pasts
 pub gets_room : GetsRoom
 gets_room start calls i packet out fine' room =
-    gets start calls i packet out (rw (lane-is start calls i) fine') (rw (lanes-are start calls) room)
+    gets start calls i packet out (rw (lane_is start calls i) fine') (rw (lanes_are start calls) room)
 
 pub room_in_share : RoomInShare ours
-room_in_share start calls i packet out = rw (← lane-is start calls i) (in_share start calls i packet out)
+room_in_share start calls i packet out = rw (← lane_is start calls i) (in_share start calls i packet out)
 
 pub repeats_change_nothing : RepeatsChangeNothing
-repeats_change_nothing start calls i packet out = rw (← lane-is start calls i) (again start calls i packet out)
+repeats_change_nothing start calls i packet out = rw (← lane_is start calls i) (again start calls i packet out)
 
 -- ---- an opening and a closing
 pub opens_if_fine : OpensIfFine ours
 unfolding reply opening opening_refusal
 opens_if_fine start calls i settings small shut' legal fits =
     let x : Handed = run ours (begun start) calls in
-    let closed' : (lane_at x.state i).opened ≡ false = ap (λ (l : Lane). l.opened) (lane-is start calls i ∙ ap lane_from shut') in
-    let within' : within (set x.state.lanes i (opened_with settings)) ≡ true = rw (lanes-are start calls) fits in
+    let closed' : (lane_at x.state i).opened ≡ false = ap (λ (l : Lane). l.opened) (lane_is start calls i ∙ ap lane_from shut') in
+    let within' : within (set x.state.lanes i (opened_with settings)) ≡ true = rw (lanes_are start calls) fits in
     rw (run_size (begun start) calls ∙ start.whole)
     (simp (not_unsound x.state (reached_sound start calls), le-ltb 7 i (omega arith), closed', legal, within'))
 
@@ -165,6 +165,6 @@ unfolding reply closing closing_refusal
 closes_if_fine start calls i out open' fits =
     let x : Handed = run ours (begun start) calls in
     let k = reached_sound start calls in
-    let opened' : (lane_at x.state i).opened ≡ true = ap (λ (l : Lane). l.opened) (lane-is start calls i) ∙ open' in
+    let opened' : (lane_at x.state i).opened ≡ true = ap (λ (l : Lane). l.opened) (lane_is start calls i) ∙ open' in
     rw (run_size (begun start) calls ∙ start.whole)
     (simp (not_unsound x.state k, opened', le-ltb (length out) record_size fits, tallies_possible_lem (lane_at x.state i) (lane_fine x.state k i)))

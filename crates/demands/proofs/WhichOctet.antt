@@ -27,7 +27,7 @@ use Rattle.demands.specs.WhichOctet.{RefusedAt, EachIsHonest, HeaderDecides, Pas
 use Rattle.demands.proofs.Reached.{reached_sound}
 use Rattle.demands.proofs.View.{step_for, took_reply}
 use Rattle.demands.proofs.Shared.{step_told}
-use Rattle.demands.proofs.Followed.{lane-is}
+use Rattle.demands.proofs.Followed.{lane_is}
 use Rattle.demands.proofs.Unrefused.{planned}
 
 -- ---- the reader
@@ -53,7 +53,7 @@ hands_on : (start : Start) (calls : List Call) (i : ℕ) (packet out : List ℕ)
 unfolding packet_plan settle
 hands_on start calls i packet out k q open' at =
     let w = read_so packet k q at in
-    let opened = ap (λ (l : Lane). l.opened) (lane-is start calls i) ∙ open' in
+    let opened = ap (λ (l : Lane). l.opened) (lane_is start calls i) ∙ open' in
     let step : step_for (run ours (begun start) calls) i packet out ≡ step.Unread k q =
     planned start calls i packet out ∙ simp (opened, ne_eqb (refusal packet) 0 (λ z. omega (arith, w))) (rw (← w.0, w.2)) in
     took_reply (run ours (begun start) calls) i packet out ∙ rw step

@@ -36,7 +36,7 @@ use Rattle.demands.specs.WhoseFault.{packet_number, CapDecides, NoOtherDecides, 
 use Rattle.demands.proofs.Pasts.{past_more, own_only}
 use Rattle.demands.proofs.Reached.{reached_sound}
 use Rattle.demands.proofs.View.{step_for, took_reply}
-use Rattle.demands.proofs.Followed.{lane-is, lanes-are, number_is}
+use Rattle.demands.proofs.Followed.{lane_is, lanes_are, number_is}
 use Rattle.demands.proofs.Unrefused.{held_if_room, planned, closes_if_fine}
 
 -- ---- a packet that is to be held is, where its lane's cap and the others leave the room
@@ -85,7 +85,7 @@ module _ (start : Start) (calls : List Call) where
     l = lane_at x.state i
 
     number_at : packet_number x i packet out ≡ first 0 (numbers_of (packet_causes all i packet (length out)))
-    number_at = number_is start calls (takes i packet out) ∙ rw (lanes-are start calls)
+    number_at = number_is start calls (takes i packet out) ∙ rw (lanes_are start calls)
 
     -- of a packet that is refused 27: nothing before 19 refuses it, it is to be held, and its lane's cap leaves the room
     refused_27 : packet_number x i packet out ≡ 27 → NothingBefore l packet × ToHold l packet × (would_hold l packet ≤ l.settings.cap)
@@ -101,7 +101,7 @@ module _ (start : Start) (calls : List Call) where
           let law = (is_fine l (lane_fine x.state reached i)).legal o in
           let lane : Lane = holding l (would_group l packet) in
           alone_fits all i
-          (none_beside all i (λ j h d. lane-is start calls j ∙ ap lane_from (alone j (omega (arith, reached.shape.0)) d)))
+          (none_beside all i (λ j h d. lane_is start calls j ∙ ap lane_from (alone j (omega (arith, reached.shape.0)) d)))
           (omega (arith, opened_small x.state reached i o, reached.shape.0)) lane (omega (arith, need_open lane o, law.share, law.cap))
 
       is_held : NothingBefore l packet → ToHold l packet → would_hold l packet ≤ l.settings.cap → IsHeld x i packet out
@@ -112,7 +112,7 @@ module _ (start : Start) (calls : List Call) where
 
 -- ---- 19
 cap_decides : CapDecides
-cap_decides start calls i packet out = rw (number_at start calls i packet out, ← lane-is start calls i) (cap_exactly (all start calls) i packet (length out))
+cap_decides start calls i packet out = rw (number_at start calls i packet out, ← lane_is start calls i) (cap_exactly (all start calls) i packet (length out))
 
 no_other_decides : NoOtherDecides
 no_other_decides start calls start' calls' i packet out out' same =
@@ -127,7 +127,7 @@ sum_decides start calls i packet out =
 
 held_if_others_closed : HeldIfOthersClosed
 held_if_others_closed start calls start' calls' i packet out out' same alone z =
-    let lanes-same = lane-is start calls i ∙ same ∙ sym (lane-is start' calls' i) in
+    let lanes-same = lane_is start calls i ∙ same ∙ sym (lane_is start' calls' i) in
     let (asks, hold, few) = subst (λ (l : Lane). NothingBefore l packet × ToHold l packet × (would_hold l packet ≤ l.settings.cap)) lanes-same (refused_27 start calls i packet out z) in
     is_held start' calls' i packet out' alone asks hold few
 

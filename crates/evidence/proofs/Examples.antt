@@ -24,7 +24,7 @@ use Rattle.demands.specs.Past.{shut, past_of}
 use Rattle.demands.specs.Demand3.{NothingAmiss, HasRoom}
 use Rattle.calls.specs.Order.{would_hold}
 use Rattle.demands.proofs.View.{after_size}
-use Rattle.demands.proofs.Followed.{lane-is}
+use Rattle.demands.proofs.Followed.{lane_is}
 use Rattle.evidence.proofs.Computed.{calling, running, remembering}
 
 -- ---- a list without the refusal 23, by looking
@@ -79,7 +79,7 @@ stays_seen i x (c ∷ calls) h zero = h.0
 stays_seen i x (c ∷ calls) h (suc n) = stays_seen i (after x c) calls h.1 n
 
 stays : (i : ℕ) (start : Start) (calls : List Call) → seen i (begun start) calls → StaysInShare ours i start calls
-stays i start calls h k = rw (← lane-is start (take k calls) i) (stays_seen i (begun start) calls h k)
+stays i start calls h k = rw (← lane_is start (take k calls) i) (stays_seen i (begun start) calls h k)
 
 -- ---- the calls on a state, with a pool of 16,384 octets; its content is asked for only where a unit is written
 state_after : State → Call → State

@@ -16,8 +16,8 @@ returns-2 c =
     let s = c.before.before.before.before.before.before.before.before.before.args in
     not_open s.s s.lane _ s.out.now _ c.before.before.before.before.before.before.is_unsound.ensures c.before.before.before.before.before.if1.false _ c.before.before.before.lane-at.ensures.0 c.before.if2.true _ c.refused2.ensures
 
-credit-of-requires : tie.Need-credit-of-requires
-credit-of-requires c κs =
+credit_of_requires : tie.Need-credit-of-requires
+credit_of_requires c κs =
     rw c.before.before.lane-at.ensures.0 (lane_fine c.before.before.before.before.before.before.before.before.args.s (then_sound _ _ (sym c.before.before.before.before.before.is_unsound.ensures ∙ c.before.before.before.before.if1.false)).0 c.before.before.before.before.before.before.before.before.args.lane)
 
 release_requires : tie.Need-release-requires
@@ -44,8 +44,8 @@ returns-4 c =
     closes s.s s.lane _ s.out.now _ asked.is_unsound.ensures found.before.before.if1.false _ found.lane-at.ensures.0 credited.before.if2.false _ credited.credit-of.ensures
     _ written.write_record.ensures.0 _ chosen.enum_told.given.1 _ written.write_record.ensures.1 _ c.before.release.ensures _ c.with-one.ensures
 
-pub close-lane-spec : {M : Type 1} → statement M
-close-lane-spec =
+pub close_lane_spec : {M : Type 1} → statement M
+close_lane_spec =
     tie.close
     (tie.spec
     (λ c κs. search rules)
@@ -54,7 +54,7 @@ close-lane-spec =
     (λ c κs. search rules)
     (λ c κs. search rules)
     returns-2
-    credit-of-requires
+    credit_of_requires
     (λ c κs. search rules)
     (λ c. search rules)
     (λ c κs. search rules)
