@@ -25,7 +25,7 @@ pub const EXTENDED: u8 = 6;
 pub const LIMIT: usize = 65542;
 
 // What reading tells. Fields that a header does not have are 0.
-#[derive(Drop)]
+#[derive(Clone, Copy)]
 pub enum Packet {
     // type 0 is telemetry, 1 telecommand; flags 0 continuation, 1 first, 2 last, 3 unsegmented; octets are those of the data field
     Space {
