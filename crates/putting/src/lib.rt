@@ -37,8 +37,8 @@ fn put_at_once(out: &mut [u8], at: usize, text: &[u8])
     let mut apart = [0u8; AT_ONCE];
     let n = text.len();
     let end = at + n;
-    bytes::copy(text, &mut apart);
-    bytes::copy(&apart[..n], &mut out[at..end]);
+    apart[..n].copy_from_slice(text);
+    out[at..end].copy_from_slice(&apart[..n]);
 }
 
 // Puts text that fits octet by octet, however long it is.
@@ -47,7 +47,7 @@ fn put_one_by_one(out: &mut [u8], at: usize, text: &[u8])
     ensures { out.new ≡ put out.old at text.now }
 {
     let end = at + text.len();
-    bytes::copy(text, &mut out[at..end]);
+    out[at..end].copy_from_slice(text);
 }
 
 // Puts one octet at index at, if it fits.
