@@ -6,8 +6,8 @@ use mathlib.Core.List.{List, [], ◌∷◌, ◌++◌, append_assoc}
 use native.Mathlib.Omega.{arith}
 use borrow.Author.Tests.{lt-ltb, le-ltb, ltb-true, ltb-false}
 use lib.Dec.{ltb}
-use lib.ListN.{length, drop, set, length-append}
-use lib.Seq.{lt-length-set, take-set-le, drop-set-lt, get_or-set_same, drop-cons}
+use lib.ListN.{length, take, drop, set, length-append}
+use lib.Seq.{lt-length-set, take-set-le, drop-set-lt, get_or-set_same, drop-cons, take-append_seam}
 use Rattle.octets.specs.Output.{put}
 use Rattle.octets.proofs.Order.{either}
 use Rattle.octets.proofs.Puts.{stored_one}
@@ -60,3 +60,8 @@ module _ (d : List ℕ) (at left to : ℕ) (h : to < length d) (last : to + 1 �
   put_only few =
       let e : to ≡ at = omega (arith, ap length (single left few)) in
       rw (e, single left few) (stored_one d at (48 + left) (omega arith))
+
+-- where the digits are put at the front, they are what that begins with
+pub at_front : (d text digits : List ℕ) (count : ℕ) → count ≡ length text → digits ≡ put d 0 text → take count digits ≡ text
+unfolding put
+at_front d text digits count e p = rw (e, p, take-append_seam text)

@@ -1,4 +1,3 @@
-pub mod Decimal
 pub mod LastFirst
 pub mod Cut
 pub mod Short

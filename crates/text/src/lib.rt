@@ -48,7 +48,8 @@ fn put_cut(out: &mut [u8], at: usize, n: u64) -> usize
     ensures out_after { out.new ≡ written out.old at (decimal n) }
 {
     let mut digits = [0u8; 20];
-    let count = io::decimal(n, &mut digits);
+    let count = digits_of(n);
+    put_digits(&mut digits, 0, count, n);
     put(out, at, &digits[..count])
 }
 
