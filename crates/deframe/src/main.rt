@@ -1,16 +1,19 @@
 // The program deframe: reads a frame file from standard input, takes its frames and prints what came of each, or `too long`; their packets go to descriptor 3, where
-// that is open. A program has no exit status in Rattle: where reading or writing fails it says so on standard error, which `./branmuslin` turns into a status.
+// that is open for writing. Where reading or writing fails it says so on standard error, and ends with status 1.
 #![tactic(auto)]
 
-ghost use Rattle.std.specs.Prelude.{◌≤◌, length};
+ghost use Rattle.std.specs.Prelude.{◌≤◌, length, IfOk};
 ghost use Rattle.telling.specs.Lines.{line_room};
 
 use deframing::Progress;
-use libc::{STDIN_FILENO, STDOUT_FILENO};
+use std::fs::{Files, OpenOptions};
+use std::io::{Read, Write};
+use std::process::ExitCode;
+use std::{fs, io};
 use telling::LINE_ROOM;
 
-// Where the packets go.
-const PACKETS: i32 = 3;
+// Where the packets go, by the name that the system gives descriptor 3.
+const PACKETS: &str = "/proc/self/fd/3";
 
 // Room for one octet more than a frame file has, so that a longer one shows.
 fn file_room() -> [u8; 1048577] {
@@ -32,22 +35,76 @@ fn text_room() -> [u8; 65536] {
     [0; 65536]
 }
 
-// What the system says of a descriptor that is not open.
-const NOT_OPEN: i32 = 9;
-
-// Writes the packets of a frame. Where that fails it says so, and answers that no more are to be written; who wants none leaves the descriptor closed.
-fn write_packets(packets: &[u8]) -> bool {
-    if io::write_all(PACKETS, packets) {
-        return true;
+// Reads until the room is full or the input ends, and answers how many octets came.
+fn read_full<R: Read>(input: &mut R, room: &mut [u8]) -> io::Result<usize>
+    ensures { IfOk result (λ n. n ≤ length room.new) }
+{
+    let mut done = 0;
+    while done < room.len() {
+        let count = input.read(&mut room[done..])?;
+        if count == 0 {
+            break;
+        }
+        done += count;
     }
-    if os::errno() != NOT_OPEN {
-        os::fail(b"packets");
-    }
-    false
+    Ok(done)
 }
 
-// Takes the frames of the file, and writes the text and the packets; answers whether the text was written whole.
-fn deframe(file: &[u8], piece: &mut [u8], out: &mut [u8], text: &mut [u8]) -> bool
+// Where the packets go, until a write fails.
+#[derive(Drop)]
+struct Packets<P> {
+    place: Option<P>,
+    error: Option<io::Error>,
+}
+
+impl<P: Write + Drop> Packets<P> {
+    // Writes the packets of a frame. Where that fails no more are written.
+    fn write(&mut self, packets: &[u8]) {
+        let written = match &mut self.place {
+            Some(place) => place.write_all(packets),
+            None => return,
+        };
+        if let Err(error) = written {
+            self.place = None;
+            self.error = Some(error);
+        }
+    }
+}
+
+// Opens the place for the packets, to write at its end. The name is a link that shows whether the descriptor is for writing; who wants no packets
+// leaves it closed.
+fn open_packets<R: Files>(rt: &R) -> Packets<R::File> {
+    let wanted = match fs::symlink_metadata(rt, PACKETS) {
+        Ok(link) => !link.permissions().readonly(),
+        Err(_) => false,
+    };
+    if !wanted {
+        return Packets {
+            place: None,
+            error: None,
+        };
+    }
+    match OpenOptions::new().append(true).open(rt, PACKETS) {
+        Ok(place) => Packets {
+            place: Some(place),
+            error: None,
+        },
+        Err(error) => Packets {
+            place: None,
+            error: Some(error),
+        },
+    }
+}
+
+// Takes the frames of the file, and writes the text and the packets.
+fn deframe<P: Write + Drop, W: Write>(
+    file: &[u8],
+    piece: &mut [u8],
+    out: &mut [u8],
+    text: &mut [u8],
+    packets: &mut Packets<P>,
+    output: &mut W,
+) -> io::Result<()>
     requires { line_room ≤ length text.old }
 {
     let state = frames::branmuslin_fresh_frames();
@@ -58,37 +115,50 @@ fn deframe(file: &[u8], piece: &mut [u8], out: &mut [u8], text: &mut [u8]) -> bo
         state,
     };
     let mut to = 0;
-    let mut goes = true;
     while !progress.done {
         let told = deframing::tell_next(file, progress, piece, out, text, to);
         let octets = told.octets;
-        if goes {
-            goes = write_packets(&out[..octets]);
-        }
+        packets.write(&out[..octets]);
         progress = told.progress;
         to = told.to;
         if progress.done | (text.len() - to < LINE_ROOM) {
-            if !io::write_all(STDOUT_FILENO, &text[..to]) {
-                return false;
-            }
+            output.write_all(&text[..to])?;
             to = 0;
         }
     }
-    true
+    Ok(())
 }
 
-fn main() {
+// Says what failed and why, and answers the status.
+fn fail(rt: &impl Eprint, what: &str, error: io::Error) -> ExitCode {
+    let _ = eprintln!(rt; "{what}: {error}");
+    ExitCode::FAILURE
+}
+
+fn main(rt: HostRuntime) -> ExitCode {
     let mut file = file_room();
-    let count = io::read_full(STDIN_FILENO, &mut file);
-    // A short count is the end of the input or a read that failed, which leaves its errno.
-    if os::errno() != 0 {
-        os::fail(b"standard input");
-        return;
-    }
+    let count = match read_full(&mut rt.stdin(), &mut file) {
+        Ok(count) => count,
+        Err(error) => return fail(&rt, "standard input", error),
+    };
     let mut piece = piece_room();
     let mut out = output_room();
     let mut text = text_room();
-    if !deframe(&file[..count], &mut piece, &mut out, &mut text) {
-        os::fail(b"standard output");
+    let mut packets = open_packets(&rt);
+    let done = deframe(
+        &file[..count],
+        &mut piece,
+        &mut out,
+        &mut text,
+        &mut packets,
+        &mut rt.stdout(),
+    );
+    let status = match packets.error {
+        None => ExitCode::SUCCESS,
+        Some(error) => fail(&rt, "packets", error),
+    };
+    match done {
+        Ok(()) => status,
+        Err(error) => fail(&rt, "standard output", error),
     }
 }

@@ -1,11 +1,13 @@
-// The program replay: reads a run file from standard input, makes the pool, runs each call and prints what came of it, or `too long`. A program
-// has no exit status in Rattle: where reading or writing fails it says so on standard error, which `./branmuslin` turns into a status.
+// The program replay: reads a run file from standard input, makes the pool, runs each call and prints what came of it, or `too long`. Where reading or
+// writing fails it says so on standard error, and ends with status 1.
 #![tactic(auto)]
 
-ghost use Rattle.std.specs.Prelude.{◌≤◌, length};
+ghost use Rattle.std.specs.Prelude.{◌≤◌, length, IfOk};
 ghost use Rattle.telling.specs.Lines.{line_room};
 
-use libc::{STDIN_FILENO, STDOUT_FILENO};
+use std::io;
+use std::io::{Read, Write};
+use std::process::ExitCode;
 
 // Room for one octet more than a run file has, so that a longer one shows.
 fn run_room() -> [u8; 1048577] {
@@ -27,34 +29,64 @@ fn text_room() -> [u8; 65536] {
     [0; 65536]
 }
 
-// Replays the run file, and writes its text chunk by chunk; answers whether all was written.
-fn replay(run: &[u8], pool: &mut [u8], out: &mut [u8], text: &mut [u8]) -> bool
+// Reads until the room is full or the input ends, and answers how many octets came.
+fn read_full<R: Read>(input: &mut R, room: &mut [u8]) -> io::Result<usize>
+    ensures { IfOk result (λ n. n ≤ length room.new) }
+{
+    let mut done = 0;
+    while done < room.len() {
+        let count = input.read(&mut room[done..])?;
+        if count == 0 {
+            break;
+        }
+        done += count;
+    }
+    Ok(done)
+}
+
+// Replays the run file, and writes its text chunk by chunk.
+fn replay<W: Write>(
+    run: &[u8],
+    pool: &mut [u8],
+    out: &mut [u8],
+    text: &mut [u8],
+    output: &mut W,
+) -> io::Result<()>
     requires { line_room ≤ length text.old }
 {
     let mut progress = runfile::begin();
     while !progress.done {
         let chunk = replaying::replay_some(run, progress, pool, out, text);
         let octets = chunk.octets;
-        if !io::write_all(STDOUT_FILENO, &text[..octets]) {
-            return false;
-        }
+        output.write_all(&text[..octets])?;
         progress = chunk.progress;
     }
-    true
+    Ok(())
 }
 
-fn main() {
+// Says what failed and why, and answers the status.
+fn fail(rt: &impl Eprint, what: &str, error: io::Error) -> ExitCode {
+    let _ = eprintln!(rt; "{what}: {error}");
+    ExitCode::FAILURE
+}
+
+fn main(rt: HostRuntime) -> ExitCode {
     let mut run = run_room();
-    let count = io::read_full(STDIN_FILENO, &mut run);
-    // A short count is the end of the input or a read that failed, which leaves its errno.
-    if os::errno() != 0 {
-        os::fail(b"standard input");
-        return;
-    }
+    let count = match read_full(&mut rt.stdin(), &mut run) {
+        Ok(count) => count,
+        Err(error) => return fail(&rt, "standard input", error),
+    };
     let mut pool = pool_room();
     let mut out = output_room();
     let mut text = text_room();
-    if !replay(&run[..count], &mut pool, &mut out, &mut text) {
-        os::fail(b"standard output");
+    match replay(
+        &run[..count],
+        &mut pool,
+        &mut out,
+        &mut text,
+        &mut rt.stdout(),
+    ) {
+        Ok(()) => ExitCode::SUCCESS,
+        Err(error) => fail(&rt, "standard output", error),
     }
 }
