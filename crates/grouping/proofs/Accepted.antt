@@ -1,7 +1,7 @@
 -- A packet that no test before the grouping rule refuses is a whole Space Packet with nothing after it: its header, the secondary octets and the
 -- user data. Every such refusal is at most 17.
 use Rattle.std.proofs.Common.{◌≡◌, ℕ, ◌+◌, ◌-◌, ◌<◌, ◌≤◌, Bool, true, false, cond, not, eqb, ltb, List, length, drop, refl, ap, ◌∙◌, arith, length-drop, take_all, drop-drop, ltb-false, eq-eqb, ne_eqb, eqb-true}
-use borrow.Author.Tests.{eqb-false, not-true, not_false}
+use borrow.Author.Tests.{eqb-false, not-true, not-false}
 use Rattle.packet.specs.Space.{version, packet_type, secondary, apid, data_octets, space_size}
 use Rattle.reading.specs.Reading.{is_encapsulation, header, size, refusal, content}
 use Rattle.reading.specs.Causes.{Whole, space, encapsulation}
@@ -36,7 +36,7 @@ module _ (t : Terms) (s : List ℕ) where
       let f = passes (not (eqb (apid s) t.settings.apid)) 15 _ (λ z. omega arith) d.1 in
       let g = passes (misflags (secondary s) t.settings.secondary) 16 _ (λ z. omega arith) f.1 in
       let h = passes (ltb (data_octets s) t.settings.secondary) 17 0 (λ z. omega arith) g.1 in
-      let read : refusal s ≡ 0 = eqb-true (refusal s) 0 (not_false _ a.0) in
+      let read : refusal s ≡ 0 = eqb-true (refusal s) 0 (not-false _ a.0) in
       let w = of_whole ((exactly_whole s).0 read) c.0 in
       let most : length s ≤ space_size s = simp (eq-eqb (version s) 0 w.0) at (ltb-false (size s) (length s) b.0) in
       record { read = read; kind = w.0; whole = omega (arith, w.1); long = ltb-false _ _ h.0 }

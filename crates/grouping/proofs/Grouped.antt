@@ -1,6 +1,6 @@
 -- What the code works out in steps is the grouping rule's: one law for each way out.
 use Rattle.std.proofs.Common.{◌≡◌, ℕ, ◌+◌, Bool, true, false, cond, not, ◌&&◌, ◌||◌, eqb, ltb, ◌⊎◌, refl, ◌∙◌, inl, inr, zero-add, eq-eqb, ne_eqb}
-use borrow.Author.Tests.{not_false}
+use borrow.Author.Tests.{not-false}
 use Rattle.lane.specs.declared.Lane.{Lane}
 use Rattle.grouping.specs.declared.Added.{Added}
 use Rattle.grouping.specs.declared.Step.TheVariants.{Stray}
@@ -67,7 +67,7 @@ module _ (l : Lane) (f c n room m : ℕ) (em : m ≡ missing_before l c) (b : Bo
 
       module _ (goes : not on ≡ false) where
         joins : on ≡ true
-        joins = not_false on goes
+        joins = not-false on goes
 
         together : k ≡ l.octets + n
         together = ek ∙ rw joins

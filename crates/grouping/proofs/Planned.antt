@@ -1,7 +1,7 @@
 -- What a plan for a packet obeys, from a fine lane. What carries it: a packet that is counted keeps the lane fine (`counted_fine`), and the plan
 -- is followed test by test.
 use Rattle.std.proofs.Common.{◌≡◌, ℕ, ◌+◌, ◌-◌, ◌*◌, ◌%◌, ◌<◌, ◌≤◌, Bool, true, false, cond, not, ◌&&◌, eqb, ltb, leb, List, sym, refl, ◌∙◌, true≢false, zero-add, arith, ltb-false, eqb-true, leb-false}
-use borrow.Author.Tests.{eqb-false, not-true, not_false}
+use borrow.Author.Tests.{eqb-false, not-true, not-false}
 use Rattle.octets.proofs.Order.{both}
 use Rattle.packet.specs.Space.{flags, counts, count}
 use Rattle.reading.specs.Reading.{refusal, place}
@@ -121,7 +121,7 @@ module _ (l : Lane) (s : List ℕ) (room : ℕ) (is : Fine l) where
         (λ e. of_either Obeys (eqb (flags s) 1) (λ f. to_hold false user (sym (zero-add user)) (λ z. absurd (true≢false (sym z))))
         (λ f. of_either Obeys (not on) (λ g. to_stray)
         (λ g. of_either Obeys (eqb (flags s) 0)
-        (λ h. to_hold true (l.octets + user) refl (λ z. on_grouped (not_false on g)))
+        (λ h. to_hold true (l.octets + user) refl (λ z. on_grouped (not-false on g)))
         (λ h. to_end true (l.octets + user) refl))))
 
 pub planned : (l : Lane) (s : List ℕ) (room : ℕ) → fine l ≡ true → Planned l s room (packet_plan l s room)
@@ -132,7 +132,7 @@ planned l s room h =
     of_either P (not l.opened) (λ e. refuses 11 (omega arith))
     (λ e. of_either P (not (eqb (refusal s) 0)) (λ r. unread (eqb-false _ _ (not-true _ r)))
     (λ r. of_either P (not (eqb (fault (terms_of l) s) 0))
-    (λ f. refuses (fault (terms_of l) s) (omega (arith, fault_least (terms_of l) s (eqb-true _ _ (not_false _ r)) (eqb-false _ _ (not-true _ f)))))
+    (λ f. refuses (fault (terms_of l) s) (omega (arith, fault_least (terms_of l) s (eqb-true _ _ (not-false _ r)) (eqb-false _ _ (not-true _ f)))))
     (λ f. of_either P (rule.repeats l (count s)) (λ g. repeats)
     (λ g. of_either P (leb most_packets l.packets) (λ k. refuses 18 (omega arith))
-    (λ k. grouping l s room is (not_false _ e) (eqb-true _ _ (not_false _ f)) g (leb-false _ _ k))))))
+    (λ k. grouping l s room is (not-false _ e) (eqb-true _ _ (not-false _ f)) g (leb-false _ _ k))))))

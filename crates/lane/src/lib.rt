@@ -18,7 +18,7 @@ const MOST_CAP: u8 = BLOCKS as u8;
 
 // What an opening gives. share and cap count blocks.
 #[repr(C)]
-#[derive(Drop)]
+#[derive(Clone, Copy)]
 pub struct Settings {
     pub station: u16,
     pub apid: u16,
@@ -29,7 +29,7 @@ pub struct Settings {
 
 // last is the count of the last accepted packet; octets are those of the open group, and 0 where there is none.
 #[repr(C)]
-#[derive(Drop)]
+#[derive(Clone, Copy)]
 pub struct Lane {
     pub opened: bool,
     pub settings: Settings,

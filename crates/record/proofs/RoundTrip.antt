@@ -5,7 +5,7 @@ use mathlib.Core.Path.{◌≡◌, refl, sym, ap, ◌∙◌}
 use mathlib.Core.List.{List, [], ◌∷◌, ◌++◌}
 use mathlib.Core.Bool.{true, not}
 use native.Mathlib.Omega.{arith}
-use borrow.Author.Tests.{eq-eqb, ltb-false, eqb-true, not_false}
+use borrow.Author.Tests.{eq-eqb, ltb-false, eqb-true, not-false}
 use lib.Dec.{eqb, ltb}
 use lib.ListN.{length, take, drop}
 use lib.Seq.{take_all, take_at}
@@ -43,7 +43,7 @@ module _ (r : Record) (w : Wide r) where
     not_refused =
         either (ltb room record_size) (λ h. absurd (omega (arith, simp h at e)))
         (λ f. either (not (possible r)) (λ h. absurd (omega (arith, simp (f, h) at e)))
-        (λ g. (ltb-false _ _ f, not_false _ g)))
+        (λ g. (ltb-false _ _ f, not-false _ g)))
 
     pub read_written : record_reading (record_octets r) ≡ 0 ∷ fields r
     unfolding possible_at
@@ -64,7 +64,7 @@ module _ (s : List ℕ) (small : AreOctets s) (e : record_refusal s ≡ 0) where
   was_read =
       either (not (eqb (length s) record_size)) (λ h. absurd (omega (arith, simp h at e)))
       (λ f. either (not (possible_at s)) (λ h. absurd (omega (arith, simp (f, h) at e)))
-      (λ g. (eqb-true _ _ (not_false _ f), not_false _ g)))
+      (λ g. (eqb-true _ _ (not-false _ f), not-false _ g)))
 
   pub write_read : record_octets (record_in s) ≡ s
   unfolding record_octets

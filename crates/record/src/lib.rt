@@ -19,7 +19,7 @@ pub const MOST_APID: u16 = 2046;
 pub const MOST_PACKETS: u32 = 262144;
 
 // What a station is credited with for one lane.
-#[derive(Drop)]
+#[derive(Clone, Copy)]
 pub struct Record {
     pub station: u16,
     pub apid: u16,
