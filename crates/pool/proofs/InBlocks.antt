@@ -3,7 +3,7 @@ use Prim.Native.Nat.{ℕ, zero, suc, ◌+◌, ◌-◌, ◌*◌, ◌/◌, ◌%◌
 use mathlib.Core.Path.{◌≡◌, refl, sym, ap, ◌∙◌}
 use mathlib.Core.List.{List, [], ◌∷◌, ◌++◌, append-nil, append_assoc}
 use native.Mathlib.Decide.{dec_lt}
-use native.Mathlib.Nat.{add-zero, zero-add, suc_add}
+use native.Mathlib.Nat.{add-zero, zero-add, suc-add}
 use native.Mathlib.Omega.{arith}
 use lib.ListN.{length, get_or, set, take, drop, length-set, length-append, length-take, length-drop, take-append-drop, drop_of_length-le}
 use lib.Seq.{sets, sets-eq, set_out, length-take-le, take-nil, take-length, take_all, drop-drop}
@@ -108,7 +108,7 @@ module _ (marks : List ℕ) (lane : ℕ) where
   gathered_then pool k zero b = rw (zero-add, add-zero)
   gathered_then pool k (suc a) b =
       let e : k + 1 + a ≡ k + suc a = omega arith in
-      rw suc_add (ap (λ (r : List ℕ). take 1 (drop (place marks lane k) pool) ++ r) (gathered_then pool (k + 1) a b ∙ rw e)
+      rw suc-add (ap (λ (r : List ℕ). take 1 (drop (place marks lane k) pool) ++ r) (gathered_then pool (k + 1) a b ∙ rw e)
       ∙ sym (append_assoc (take 1 (drop (place marks lane k) pool)) (gathered marks lane pool (k + 1) a) (gathered marks lane pool (k + suc a) b)))
 
   -- an octet past the end is left out, so there are n at most
