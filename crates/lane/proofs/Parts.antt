@@ -1,7 +1,7 @@
 -- The clauses of a fine lane in the order in which the code tests them: one that fails decides, and the last is what is left.
 use Prim.Native.Nat.{ℕ, ◌+◌, ◌≤◌, ◌<◌}
 use mathlib.Core.Path.{◌≡◌, refl, sym, ap, ◌∙◌}
-use mathlib.Core.Bool.{Bool, true, false, not, ◌&&◌, ◌||◌, and_true, and_false}
+use mathlib.Core.Bool.{Bool, true, false, not, ◌&&◌, ◌||◌, and-true, and-false}
 use native.Mathlib.Omega.{arith}
 use lib.Dec.{eqb, ltb, leb}
 use borrow.Author.Tests.{le-leb, lt-leb, le-ltb, lt-ltb, ne_eqb}
@@ -34,11 +34,11 @@ module _ (l : Lane) where
   -- ---- the tallies
   pub too_few_packets : (g : ℕ) → g ≡ one l.grouped → l.packets < l.units + l.broken + g → false ≡ tallies_possible l
   unfolding tallies_possible
-  too_few_packets g e h = rw (more_broken counted (one l.grouped), ← e, lt-leb _ _ h) (sym (and_false tally))
+  too_few_packets g e h = rw (more_broken counted (one l.grouped), ← e, lt-leb _ _ h) (sym (and-false tally))
 
   pub enough_packets : (g : ℕ) → g ≡ one l.grouped → l.units + l.broken + g ≤ l.packets → (b : Bool) → b ≡ tally → b ≡ tallies_possible l
   unfolding tallies_possible
-  enough_packets g e h b eb = rw (more_broken counted (one l.grouped), ← e, le-leb _ _ h) (eb ∙ sym (and_true tally))
+  enough_packets g e h b eb = rw (more_broken counted (one l.grouped), ← e, le-leb _ _ h) (eb ∙ sym (and-true tally))
 
   -- ---- the group
   abbrev within : Bool
@@ -57,10 +57,10 @@ module _ (l : Lane) where
       anyhow false = refl
 
   pub of_a_group : l.grouped ≡ true → (n : ℕ) → n ≡ held l → leb n l.settings.cap ≡ within && group
-  of_a_group e n en = rw (e, en) (sym (and_true within))
+  of_a_group e n en = rw (e, en) (sym (and-true within))
 
   pub of_no_group : l.grouped ≡ false → (l.octets ≡ 0 → ⊥) → false ≡ within && group
-  of_no_group e h = rw (e, ne_eqb l.octets 0 h) (sym (and_false within))
+  of_no_group e h = rw (e, ne_eqb l.octets 0 h) (sym (and-false within))
 
   -- ---- what is asked of open and of closed lanes
   abbrev kept : Bool
