@@ -1,19 +1,19 @@
 -- Eight octets hold every header: what they announce, all octets announce. So a packet that eight octets cut short is whole where all of them are as many as it has.
 use Prim.Native.Nat.{ℕ, ◌+◌, ◌≤◌, ◌<◌}
 use mathlib.Core.Path.{◌≡◌, refl, sym, ap, ◌∙◌}
-use mathlib.Core.List.{List, [], ◌++◌}
-use mathlib.Core.Bool.{Bool, true, false, cond, ◌&&◌}
+use mathlib.Core.List.{List, ◌++◌}
+use mathlib.Core.Bool.{cond, ◌&&◌}
 use native.Mathlib.Omega.{arith}
 use borrow.Author.Tests.{eq-eqb, ne_eqb, le-leb, lt-leb, leb-true, leb-false, eqb-true, eqb-false}
 use lib.Dec.{eqb, leb}
-use lib.ListN.{length, take, drop, length-append, length-take, take-append-drop, get_or-append}
+use lib.ListN.{length, take, drop, length-append, take-append-drop, get_or-append}
 use lib.Seq.{take_all, length-take-le}
 use Rattle.octets.specs.Octets.{octet, be16}
 use Rattle.octets.specs.Output.{leading}
 use Rattle.octets.proofs.Order.{either}
 use Rattle.packet.specs.Space.{version, space_size}
-use Rattle.packet.specs.Encapsulation.{encap_header, encap_size}
-use Rattle.reading.specs.Reading.{header, size, refusal, reading}
+use Rattle.packet.specs.Encapsulation.{encap_size}
+use Rattle.reading.specs.Reading.{header, size, refusal}
 use Rattle.reading.specs.Causes.{Cause, SpaceGood, EncapGood, no_octets, no_version, space_header_cut, idle, space_packet, encap_header_cut, names_nothing, less_than_header, over_limit, no_content, encap_packet}
 use Rattle.reading.specs.Causes.{Whole, space, encapsulation}
 use Rattle.reading.proofs.Exactly.{gives, whole_gives, exactly}

@@ -20,7 +20,7 @@ const HEADER: usize = 8;
 const LONGEST: usize = 8192;
 
 // What decides it: how many octets, the refusal of reading them, or 0, and the sizes that their header announces.
-#[derive(Drop)]
+#[derive(Clone, Copy)]
 struct Judged {
     pub octets: usize,
     pub number: u8,

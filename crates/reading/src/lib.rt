@@ -35,7 +35,7 @@ pub fn read_packet(s: &[u8]) -> Packet
 }
 
 // The octets of a header, and of the whole packet, as the header announces them.
-#[derive(Drop)]
+#[derive(Clone, Copy)]
 pub struct Sizes {
     pub header: usize,
     pub size: usize,
