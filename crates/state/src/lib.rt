@@ -11,7 +11,7 @@ use pool::POOL_OCTETS;
 
 // marks says of each block whose it is: 512 if it is free, else lane x 64 + place.
 #[repr(C)]
-#[derive(Drop)]
+#[derive(Clone, Copy)]
 pub struct State {
     pub lanes: [Lane; 8],
     pub marks: [u16; BLOCKS],
