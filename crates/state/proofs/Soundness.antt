@@ -5,7 +5,7 @@ use mathlib.Core.Bool.{Bool, true, false, not, ◌&&◌, true≢false}
 use mathlib.Core.List.{List, [], ◌∷◌, map}
 use native.Mathlib.Decide.{dec_lt}
 use native.Mathlib.Omega.{arith}
-use borrow.Author.Tests.{eq-eqb, ne_eqb, eqb-true, not_false}
+use borrow.Author.Tests.{eq-eqb, ne_eqb, eqb-true, not-false}
 use lib.Dec.{eqb}
 use lib.ListN.{length, get_or, get_or-eq_default}
 use Rattle.octets.proofs.Order.{both}
@@ -54,7 +54,7 @@ module _ (s : State) (n : ℕ) where
 -- ---- what is known once the test has passed
 pub then_sound : (s : State) (octets : ℕ) → unsound s octets ≡ false → (sound s ≡ true) × (octets ≡ pool_octets)
 unfolding unsound
-then_sound s octets e = let p = both (sound s) (eqb octets pool_octets) (not_false _ e) in (p.0, eqb-true _ _ p.1)
+then_sound s octets e = let p = both (sound s) (eqb octets pool_octets) (not-false _ e) in (p.0, eqb-true _ _ p.1)
 
 pub closed_fine : fine closed ≡ true
 unfolding fine illegal tallies_possible possible one blocks_for
