@@ -6,7 +6,7 @@ use mathlib.Core.List.{List, [], ◌∷◌, ◌++◌, append_assoc}
 use mathlib.Core.Bool.{Bool, true, false, cond, ◌&&◌, ◌||◌}
 use native.Mathlib.Nat.{mod-eq_of_lt, mul-add-mod_self_right}
 use native.Mathlib.Omega.{arith}
-use borrow.Author.Tests.{eq-eqb, ne_eqb, eqb-true, not_false}
+use borrow.Author.Tests.{eq-eqb, ne_eqb, eqb-true, not-false}
 use lib.Dec.{eqb, ltb}
 use lib.ListN.{length, take, drop, length-append}
 use lib.Seq.{take-append_seam, drop_at}
@@ -32,7 +32,7 @@ pub record Legal (h p u x n : ℕ) : Type 0 where
 
 -- an extension needs protocol ID 6
 no_extension : (p x : ℕ) → extends_another p x ≡ false → (p ≡ extended → ⊥) → x ≡ 0
-no_extension p x e other = either (eqb x 0) (λ t. eqb-true _ _ t) (λ f. absurd (other (eqb-true _ _ (not_false _ (simp f at e)))))
+no_extension p x e other = either (eqb x 0) (λ t. eqb-true _ _ t) (λ f. absurd (other (eqb-true _ _ (not-false _ (simp f at e)))))
 
 -- the fields of the first octet: version, protocol ID, length of length
 first_fields : (p l : ℕ) → p < 8 → l < 4 → (first_octet p l / 32 % 8 ≡ 7) × (first_octet p l / 4 % 8 ≡ p) × (first_octet p l % 4 ≡ l)

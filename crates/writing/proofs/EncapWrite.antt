@@ -5,7 +5,7 @@ use mathlib.Core.Path.{◌≡◌, refl, sym, ap, ◌∙◌}
 use mathlib.Core.List.{List, [], ◌∷◌, ◌++◌}
 use mathlib.Core.Bool.{false, cond, not, ◌&&◌, ◌||◌}
 use native.Mathlib.Omega.{arith}
-use borrow.Author.Tests.{eq-eqb, ne_eqb, le-ltb, eqb-true, eqb-false, not_false}
+use borrow.Author.Tests.{eq-eqb, ne_eqb, le-ltb, eqb-true, eqb-false, not-false}
 use lib.Dec.{eqb, ltb}
 use lib.ListN.{length, take, drop, length-drop}
 use lib.Seq.{take-add, length-take-le}
@@ -58,7 +58,7 @@ module _ (s : List ℕ) (small : AreOctets s) (good : EncapGood s) (h : encap_si
   ccsds_0 : encap_header s ≡ 8 → 0 ≡ be16 s 2
   ccsds_0 e =
       let named = neither (eqb (protocol s) 6 && ltb (encap_header s) 4 || extends_another (protocol s) (extension s)) (not (eqb (ccsds s) 0)) good.0.0.0.1 in
-      sym (eqb-true (ccsds s) 0 (not_false _ named.1)) ∙ ap (λ k. cond (ltb k 8) 0 (be16 s 2)) e
+      sym (eqb-true (ccsds s) 0 (not-false _ named.1)) ∙ ap (λ k. cond (ltb k 8) 0 (be16 s 2)) e
 
   -- with the header's size that it had, the header comes back
   abbrev header_again : List ℕ

@@ -3,9 +3,9 @@
 use Prim.Native.Nat.{ℕ, zero, suc, ◌+◌, ◌-◌, ◌/◌, ◌%◌, ◌≤◌, ◌<◌}
 use mathlib.Core.Path.{◌≡◌, refl, sym, ap, ◌∙◌}
 use mathlib.Core.List.{List, [], ◌∷◌, ◌++◌, append-nil}
-use mathlib.Core.Bool.{true, false, cond, not, ◌&&◌, ◌||◌, true≢false}
+use mathlib.Core.Bool.{true, cond, not, ◌&&◌, ◌||◌, true≢false}
 use native.Mathlib.Omega.{arith}
-use borrow.Author.Tests.{eq-eqb, ne_eqb, lt-ltb, le-ltb, ltb-true, ltb-false, eqb-true, not_false}
+use borrow.Author.Tests.{eq-eqb, ne_eqb, lt-ltb, le-ltb, ltb-true, ltb-false, eqb-true, not-false}
 use lib.Dec.{eqb, ltb}
 use lib.ListN.{length}
 use Rattle.octets.specs.Octets.{octet, be16, AreOctets}
@@ -61,7 +61,7 @@ module _ (s : List ℕ) (small : AreOctets s) (good : EncapGood s) where
       true≢false (sym (simp (eq-eqb (protocol s) 6 six) (ap (λ k. ltb k 4) e ∙ t)) ∙ b.0)
 
   idle : encap_size s ≡ encap_header s → protocol s ≡ 0
-  idle e = eqb-true _ _ (not_false _ (simp (eq-eqb n 0 (omega (arith, e))) at good.1))
+  idle e = eqb-true _ _ (not-false _ (simp (eq-eqb n 0 (omega (arith, e))) at good.1))
 
   pub at_most : Kind s → shortest (protocol s) (user s) n ≤ encap_header s
   at_most (one l e) =

@@ -35,10 +35,10 @@ module _ (t x a f c : ℕ) (field rest : List ℕ) (room : ℕ) (ok : Fine t x a
   same : Same
   unfolding space_octets
   same = record {
-    version_0 = omega (arith, ok.packet_type_lem, ok.secondary, ok.apid);
-    type_is = omega (arith, ok.packet_type_lem, ok.secondary, ok.apid);
-    second = omega (arith, ok.packet_type_lem, ok.secondary, ok.apid);
-    id = omega (arith, ok.packet_type_lem, ok.secondary, ok.apid);
+    version_0 = omega (arith, ok.type_fits, ok.secondary, ok.apid);
+    type_is = omega (arith, ok.type_fits, ok.secondary, ok.apid);
+    second = omega (arith, ok.type_fits, ok.secondary, ok.apid);
+    id = omega (arith, ok.type_fits, ok.secondary, ok.apid);
     flag = omega (arith, ok.flags, ok.count);
     number = omega (arith, ok.flags, ok.count);
     octets = omega (arith, ok.some, ok.most);
@@ -118,7 +118,7 @@ module _ (s : List ℕ) (small : AreOctets s) (good : SpaceGood s) (h : space_si
       let most = small 4 in
       let last = small 5 in
       record {
-        packet_type_lem = omega arith;
+        type_fits = omega arith;
         secondary = omega arith;
         apid = omega arith;
         flags = omega arith;

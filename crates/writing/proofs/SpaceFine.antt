@@ -16,7 +16,7 @@ use Rattle.writing.specs.Space.{space_octets, space_over, wrong_data_length, spa
 
 module _ (t x a f c n room : ℕ) where
   pub record Fine : Type 0 where
-    pub packet_type_lem : t < 2
+    pub type_fits : t < 2
     pub secondary : x < 2
     pub apid : a < apids
     pub flags : f < 4
@@ -35,7 +35,7 @@ module _ (t x a f c n room : ℕ) where
       let (t', x') = neither (over 1 t) (over 1 x) o2 in
       let (none, most) = neither (eqb n 0) (ltb longest_data n) empty in
       record {
-        packet_type_lem = leb-false 2 t t';
+        type_fits = leb-false 2 t t';
         secondary = leb-false 2 x x';
         apid = leb-false apids a a';
         flags = leb-false 4 f f';
@@ -59,7 +59,7 @@ module _ (t x a f c n room : ℕ) where
   pub accepts : Fine → space_refusal t x a f c n room ≡ 0
   unfolding space_told
   accepts ok =
-      simp (lt-leb 2 t ok.packet_type_lem, lt-leb 2 x ok.secondary, lt-leb apids a ok.apid, lt-leb 4 f ok.flags, lt-leb counts c ok.count, ok.not_idle, ne_eqb n 0 (λ z. omega (arith, ok.some)), le-ltb longest_data n ok.most, le-ltb room (space_header + n) ok.fits)
+      simp (lt-leb 2 t ok.type_fits, lt-leb 2 x ok.secondary, lt-leb apids a ok.apid, lt-leb 4 f ok.flags, lt-leb counts c ok.count, ok.not_idle, ne_eqb n 0 (λ z. omega (arith, ok.some)), le-ltb longest_data n ok.most, le-ltb room (space_header + n) ok.fits)
 
   -- ---- a number that was settled first is what is told, and so are the octets
   pub refused_told : {k : ℕ} → k ≡ space_refusal t x a f c n room → (k ≡ 0 → ⊥) → k ∷ [] ≡ space_told t x a f c n room

@@ -1,0 +1,57 @@
+-- Refused, the output stays; else the header and the content are put, whose fields are within their widths by `fine`.
+use Rattle.std.proofs.Common.{◌+◌, ◌≤◌, refl, sym, ◌∙◌, length, arith, rules}
+use Rattle.octets.proofs.Puts.{Wrote, Fits, then_put}
+use Rattle.octets.proofs.Writers.{accepted, refused}
+use Rattle.packet.specs.Encapsulation.{limit}
+use Rattle.writing.specs.Encapsulation.{shortest, header_octets, encap_octets_with, encap_octets, encap_refusal}
+use Rattle.writing.proofs.Header.{shortest_fits, header_size}
+use Rattle.writing.proofs.EncapFine.{fine, refused_told, fine_told, encap_size_lem}
+use Rattle.writing.proofs.write_encapsulation.Goals as goal
+
+pub returns-then-number-ne0 : goal.returns-then-number-ne0
+returns-then-number-ne0 c =
+    let a = c.args in
+    let n = length a.content.now in
+    let room = length a.out.now in
+    let settled = c.refusal-number.ensures in
+    record {
+      result_value = refused_told a.protocol a.user a.extension n room settled c.if-number-ne0.true;
+      out_after = refused (encap_refusal a.protocol a.user a.extension n room) (encap_octets a.protocol a.user a.extension a.content.now) a.out.now (omega (arith, settled, c.if-number-ne0.true));
+    }
+
+pub put_header-requires : goal.put_header-requires
+put_header-requires c =
+    let a = c.args in
+    let f = fine a.protocol a.user a.extension (length a.content.now) (length a.out.now) (sym c.refusal-number.ensures ∙ c.if-number-ne0.false) in
+    let e = c.shortest_header-header.ensures in
+    record {
+      protocol_bound = (f.protocol, f.user, f.extension);
+      header_value = (e, omega (arith, e, f.limited), omega (arith, e, f.fits));
+    }
+
+pub overflow_add-result : goal.overflow_add-result
+overflow_add-result c =
+    let a = c.args in
+    let f = fine a.protocol a.user a.extension (length a.content.now) (length a.out.now) (sym c.refusal-number.ensures ∙ c.if-number-ne0.false) in
+    let small : c.shortest_header-header.result + length a.content.now ≤ limit = omega (arith, c.shortest_header-header.ensures, f.limited) in
+    search rules
+
+pub returns : goal.returns
+unfolding encap_octets_with
+returns c =
+    let a = c.args in
+    let d = a.out.now in
+    let n = length a.content.now in
+    let none = sym c.refusal-number.ensures ∙ c.if-number-ne0.false in
+    let f = fine a.protocol a.user a.extension n (length d) none in
+    let h = shortest a.protocol a.user n in
+    let e = c.shortest_header-header.ensures in
+    let header = header_octets h a.protocol a.user a.extension (h + n) in
+    let size = header_size (shortest_fits a.protocol a.user n) a.extension (h + n) in
+    let put1 : Wrote d 0 header c.put_header.new.out c.shortest_header-header.result = (omega (arith, e, size), rw (← e) c.put_header.ensures) in
+    let room : Fits d 0 (encap_octets a.protocol a.user a.extension a.content.now) = omega (arith, encap_size_lem a.protocol a.user a.extension a.content.now, f.fits) in
+    let put2 = then_put d 0 header a.content.now room refl put1 c.put_octets.ensures in
+    record {
+      result_value = rw e (fine_told a.protocol a.user a.extension n (length d) none);
+      out_after = put2.1 ∙ accepted (encap_refusal a.protocol a.user a.extension n (length d)) (encap_octets a.protocol a.user a.extension a.content.now) d none;
+    }
