@@ -6,7 +6,7 @@ ghost use Rattle.std.specs.Prelude.{◌≤◌, length, IfOk};
 ghost use Rattle.telling.specs.Lines.{line_room};
 
 use deframing::Progress;
-use std::fs::{Files, OpenOptions};
+use std::fs::{File, Files, OpenOptions};
 use std::io::{Read, Write};
 use std::process::ExitCode;
 use std::{fs, io};
@@ -50,28 +50,34 @@ fn read_full<R: Read>(input: &mut R, room: &mut [u8]) -> io::Result<usize>
     Ok(done)
 }
 
-// Where the packets go, until a write fails.
+// An open place for packets. The first file that is opened takes the number of a standard descriptor that is closed, so two others are opened
+// before it, which can't be written.
+#[derive(Drop)]
+struct Place<P> {
+    first: P,
+    second: P,
+    file: P,
+}
+
+fn open_place<R: Files>(rt: &R) -> io::Result<Place<R::File>> {
+    let first = File::open(rt, "/dev/null")?;
+    let second = File::open(rt, "/dev/null")?;
+    let file = OpenOptions::new().append(true).open(rt, PACKETS)?;
+    Ok(Place {
+        first,
+        second,
+        file,
+    })
+}
+
+// Where the packets go, until that fails.
 #[derive(Drop)]
 struct Packets<P> {
-    place: Option<P>,
+    place: Option<Place<P>>,
     error: Option<io::Error>,
 }
 
-impl<P: Write + Drop> Packets<P> {
-    // Writes the packets of a frame. Where that fails no more are written.
-    fn write(&mut self, packets: &[u8]) {
-        let written = match &mut self.place {
-            Some(place) => place.write_all(packets),
-            None => return,
-        };
-        if let Err(error) = written {
-            self.place = None;
-            self.error = Some(error);
-        }
-    }
-}
-
-// Opens the place for the packets, to write at its end. The name is a link that shows whether the descriptor is for writing; who wants no packets
+// Opens the place for the packets, to write at its end. Its name is a link that shows whether the descriptor is for writing; who wants no packets
 // leaves it closed.
 fn open_packets<R: Files>(rt: &R) -> Packets<R::File> {
     let wanted = match fs::symlink_metadata(rt, PACKETS) {
@@ -84,7 +90,7 @@ fn open_packets<R: Files>(rt: &R) -> Packets<R::File> {
             error: None,
         };
     }
-    match OpenOptions::new().append(true).open(rt, PACKETS) {
+    match open_place(rt) {
         Ok(place) => Packets {
             place: Some(place),
             error: None,
@@ -93,6 +99,20 @@ fn open_packets<R: Files>(rt: &R) -> Packets<R::File> {
             place: None,
             error: Some(error),
         },
+    }
+}
+
+impl<P: Write + Drop> Packets<P> {
+    // Writes the packets of a frame. Where that fails no more are written.
+    fn write(&mut self, packets: &[u8]) {
+        let written = match &mut self.place {
+            Some(place) => place.file.write_all(packets),
+            None => return,
+        };
+        if let Err(error) = written {
+            self.place = None;
+            self.error = Some(error);
+        }
     }
 }
 
@@ -129,8 +149,14 @@ fn deframe<P: Write + Drop, W: Write>(
     Ok(())
 }
 
-// Says what failed and why, and answers the status.
+// The status of a program that wrote where nobody reads on, as its shell tells it.
+const UNREAD: u8 = 141;
+
+// Says what failed and why, and answers the status. Where nobody reads on there is nobody to be told.
 fn fail(rt: &impl Eprint, what: &str, error: io::Error) -> ExitCode {
+    if error.kind() == io::ErrorKind::BrokenPipe {
+        return ExitCode::from(UNREAD);
+    }
     let _ = eprintln!(rt; "{what}: {error}");
     ExitCode::FAILURE
 }

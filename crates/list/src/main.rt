@@ -34,8 +34,14 @@ fn read_full<R: Read>(input: &mut R, room: &mut [u8]) -> io::Result<usize>
     Ok(done)
 }
 
-// Says what failed and why, and answers the status.
+// The status of a program that wrote where nobody reads on, as its shell tells it.
+const UNREAD: u8 = 141;
+
+// Says what failed and why, and answers the status. Where nobody reads on there is nobody to be told.
 fn fail(rt: &impl Eprint, what: &str, error: io::Error) -> ExitCode {
+    if error.kind() == io::ErrorKind::BrokenPipe {
+        return ExitCode::from(UNREAD);
+    }
     let _ = eprintln!(rt; "{what}: {error}");
     ExitCode::FAILURE
 }

@@ -64,8 +64,14 @@ fn replay<W: Write>(
     Ok(())
 }
 
-// Says what failed and why, and answers the status.
+// The status of a program that wrote where nobody reads on, as its shell tells it.
+const UNREAD: u8 = 141;
+
+// Says what failed and why, and answers the status. Where nobody reads on there is nobody to be told.
 fn fail(rt: &impl Eprint, what: &str, error: io::Error) -> ExitCode {
+    if error.kind() == io::ErrorKind::BrokenPipe {
+        return ExitCode::from(UNREAD);
+    }
     let _ = eprintln!(rt; "{what}: {error}");
     ExitCode::FAILURE
 }
