@@ -1,7 +1,5 @@
 -- Why a packet is refused before the grouping rule, from what the reader's enum says of its octets: one law for each way out.
-use Rattle.std.proofs.Common.{◌≡◌, ℕ, ◌+◌, ◌-◌, ◌≤◌, Bool, true, false, cond, not, eqb, ltb, ◌⊎◌, List, [], ◌∷◌, length, sym, ap, ◌∙◌, ⊎_elim, arith, ltb-false, eq-eqb, ne_eqb}
-use denote.Enum.Declared.{tag_of}
-use types.Run.{OneOf}
+use Rattle.std.proofs.Common.{◌≡◌, ℕ, ◌+◌, ◌-◌, ◌≤◌, Bool, true, false, cond, not, eqb, ltb, List, length, refl, sym, ap, ◌∙◌, arith, ltb-false, eq-eqb, ne_eqb}
 use Rattle.octets.proofs.Order.{either}
 use Rattle.packet.specs.Space.{version, space_header}
 use Rattle.reading.specs.Reading.{size, refusal, reading}
@@ -9,7 +7,6 @@ use Rattle.reading.specs.Causes.{Whole, space, encapsulation}
 use Rattle.packet.specs.Told.{told}
 use Rattle.packet.specs.declared.Packet.{Packet}
 use Rattle.packet.specs.declared.Packet.TheVariants.{Space, Encapsulation, Refused}
-use Rattle.packet.specs.contracts.Packet.{the_type}
 use Rattle.reading.proofs.Exactly.{exactly_whole}
 use Rattle.reading.proofs.Answers.{Says, says, size_told}
 use Rattle.lane.specs.declared.Lane.{Lane}
@@ -55,9 +52,9 @@ module _ (l : Lane) (s : List ℕ) (room : ℕ) where
 
   module _ (open' : not l.opened ≡ false) where
     -- what is no Space Packet: an Encapsulation Packet, or the reader's refusal with its place
-    other : (p : Packet) → OneOf (1 ∷ 2 ∷ []) (tag_of the_type p) → Says p s → other_plan p (length s) ≡ packet_plan l s room
+    other : (p : Packet) → ((t x a f c n : ℕ) → p ≡ Space t x a f c n → ⊥) → Says p s → other_plan p (length s) ≡ packet_plan l s room
     unfolding other_plan packet_plan fault
-    other (Space t x a f c n) k w = absurd (⊎_elim (λ e. omega arith) (λ e. omega arith) k)
+    other (Space t x a f c n) k w = absurd (k t x a f c n refl)
     other (Encapsulation i u x h n) k w =
         let z = (size_told (Encapsulation i u x h n) s w w.0).1 in
         either (ltb (size s) (length s))
@@ -66,8 +63,8 @@ module _ (l : Lane) (s : List ℕ) (room : ℕ) where
     other (Refused q m) k w = rw (w.0, w.2) (simp (open', ne_eqb m 0 (λ e. omega (arith, w.1))))
 
   module _ (open' : not l.opened ≡ false) (p : Packet) (read : told p ≡ reading s) where
-    pub not_space : OneOf (1 ∷ 2 ∷ []) (tag_of the_type p) → (r : Plan) → r ≡ other_plan p (length s) → r ≡ packet_plan l s room
-    not_space keys r f = f ∙ other open' p keys (says p s read)
+    pub not_space : ((t x a f c n : ℕ) → p ≡ Space t x a f c n → ⊥) → (r : Plan) → r ≡ other_plan p (length s) → r ≡ packet_plan l s room
+    not_space h r f = f ∙ other open' p h (says p s read)
 
     module _ (t x a f c n : ℕ) (is : p ≡ Space t x a f c n) (k : ℕ) (fk : k ≡ space_fault (terms_of l) (length s) t x a n) where
       said : Says (Space t x a f c n) s

@@ -20,7 +20,7 @@ pub struct Terms {
 }
 
 // What an accepted packet adds to the tallies: packets missing before it, whether an open group is given up, and its count.
-#[derive(Drop)]
+#[derive(Clone, Copy)]
 pub struct Added {
     pub missing: u16,
     pub given_up: bool,
@@ -28,7 +28,7 @@ pub struct Added {
 }
 
 // What a packet does. `joins` says that the open group goes on; octets are those of the group or unit with the user data.
-#[derive(Drop)]
+#[derive(Clone, Copy)]
 pub enum Step {
     // 8 and above
     Refuse(u8),
