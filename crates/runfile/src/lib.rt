@@ -19,7 +19,7 @@ pub enum Call {
 }
 
 // Where a run stands: the octets of whole calls behind it, their number, whether its text is whole, and the intake's state.
-#[derive(Drop)]
+#[derive(Clone, Copy)]
 pub struct Progress {
     pub at: usize,
     pub calls: usize,
