@@ -1,15 +1,14 @@
 // Cases of lanes: calls from the state that the lines before made.
 use crate::line::at;
 use crate::octet_cases::{say_record, say_unread};
-use crate::say::{
-    HELD, OK, REFUSED, REPEAT, SOUND, STRAY, UNIT, UNSOUND, front, lend, say_number, say_with,
-    say_word,
-};
+use crate::say::{front, lend, say_number, say_with, say_word};
 use crate::writing_cases::say_output;
 use intake::{Answer, close_lane, open_lane, take_packet};
 use lane::{Lane, Settings};
 use putting::put_be16;
 use state::{State, is_sound};
+use std::io;
+use std::io::Write;
 use writing::{Written, write_space};
 
 fn settings_of(station: u32, apid: u32, secondary: u32, share: u32, cap: u32) -> Settings {
@@ -22,28 +21,29 @@ fn settings_of(station: u32, apid: u32, secondary: u32, share: u32, cap: u32) ->
     }
 }
 
-pub(crate) fn say_sound(s: State) {
-    if is_sound(s) {
-        say_word(SOUND);
-    } else {
-        say_word(UNSOUND);
-    }
+pub(crate) fn say_sound<W: Write>(to: &mut W, s: State) -> io::Result<()> {
+    say_word(to, if is_sound(s) { "sound" } else { "unsound" })
 }
 
 // The numbers: lane, then the settings.
-pub(crate) fn open(s: State, n: [u32; 16], pool: &[u8]) -> State {
+pub(crate) fn open<W: Write>(to: &mut W, s: State, n: [u32; 16], pool: &[u8]) -> io::Result<State> {
     let settings = settings_of(at(n, 2), at(n, 3), at(n, 4), at(n, 5), at(n, 6));
     let changed = open_lane(s, at(n, 1) as usize, settings, pool);
     if changed.refusal == 0 {
-        say_word(OK);
+        say_word(to, "ok")?;
     } else {
-        say_with(REFUSED, changed.refusal as u64);
+        say_with(to, "refused", changed.refusal as u64)?;
     }
-    changed.state
+    Ok(changed.state)
 }
 
 // The numbers: lane, octets of output.
-pub(crate) fn close(s: State, n: [u32; 16], pool: &[u8]) -> State {
+pub(crate) fn close<W: Write>(
+    to: &mut W,
+    s: State,
+    n: [u32; 16],
+    pool: &[u8],
+) -> io::Result<State> {
     let mut out = [0u8; 20];
     let changed = close_lane(
         s,
@@ -52,34 +52,34 @@ pub(crate) fn close(s: State, n: [u32; 16], pool: &[u8]) -> State {
         lend(&mut out, at(n, 2) as usize),
     );
     if changed.refusal == 0 {
-        say_record(&out);
+        say_record(to, &out)?;
     } else {
-        say_with(REFUSED, changed.refusal as u64);
+        say_with(to, "refused", changed.refusal as u64)?;
     }
-    changed.state
+    Ok(changed.state)
 }
 
-fn say_step(k: usize, missing: u16, given_up: bool) {
-    say_with(k, missing as u64);
-    say_number(given_up as u64);
+fn say_step<W: Write>(to: &mut W, word: &str, missing: u16, given_up: bool) -> io::Result<()> {
+    say_with(to, word, missing as u64)?;
+    say_number(to, given_up as u64)
 }
 
 // The answer, and of a unit its length and what lies in the output.
-fn say_answer(answer: Answer, out: &[u8]) {
+fn say_answer<W: Write>(to: &mut W, answer: Answer, out: &[u8]) -> io::Result<()> {
     match answer {
-        Answer::Refused(number) => say_with(REFUSED, number as u64),
-        Answer::Unread { number, place } => say_unread(number, place),
-        Answer::Repeat => say_word(REPEAT),
-        Answer::Stray { missing, given_up } => say_step(STRAY, missing, given_up),
-        Answer::Held { missing, given_up } => say_step(HELD, missing, given_up),
+        Answer::Refused(number) => say_with(to, "refused", number as u64),
+        Answer::Unread { number, place } => say_unread(to, number, place),
+        Answer::Repeat => say_word(to, "repeat"),
+        Answer::Stray { missing, given_up } => say_step(to, "stray", missing, given_up),
+        Answer::Held { missing, given_up } => say_step(to, "held", missing, given_up),
         Answer::Unit {
             octets,
             missing,
             given_up,
         } => {
-            say_step(UNIT, missing, given_up);
-            say_number(octets as u64);
-            say_output(out, octets);
+            say_step(to, "unit", missing, given_up)?;
+            say_number(to, octets as u64)?;
+            say_output(to, out, octets)
         }
     }
 }
@@ -98,7 +98,13 @@ pub(crate) fn put_packet(n: [u32; 16], content: &[u8], packet: &mut [u8]) -> usi
 }
 
 // Gives the packet to the lane.
-pub(crate) fn send(s: State, n: [u32; 16], packet: &[u8], pool: &mut [u8]) -> State {
+pub(crate) fn send<W: Write>(
+    to: &mut W,
+    s: State,
+    n: [u32; 16],
+    packet: &[u8],
+    pool: &mut [u8],
+) -> io::Result<State> {
     let mut out = [0xA5u8; 81928];
     let answered = take_packet(
         s,
@@ -107,9 +113,8 @@ pub(crate) fn send(s: State, n: [u32; 16], packet: &[u8], pool: &mut [u8]) -> St
         pool,
         lend(&mut out, at(n, 2) as usize),
     );
-    let answer = answered.answer;
-    say_answer(answer, &out);
-    answered.state
+    say_answer(to, answered.answer, &out)?;
+    Ok(answered.state)
 }
 
 // Sends an unsegmented packet of APID 42 with one octet of data to lane 0.

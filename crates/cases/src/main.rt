@@ -2,6 +2,8 @@
 // this folder has the paper's cases that are not starred, and says what each line means; so a new case is a line there.
 #![tactic(auto)]
 
+ghost use Rattle.std.specs.Prelude.{◌≤◌, length, IfOk};
+
 mod lane_cases;
 mod line;
 mod octet_cases;
@@ -9,12 +11,13 @@ mod say;
 mod writing_cases;
 
 use lane_cases::{close, fill, open, put_packet, say_sound, send, with_lane, with_mark};
-use libc::STDIN_FILENO;
 use line::{at, numbers_of, part};
 use octet_cases::say_reading;
 use octets::be32_at;
-use say::{UNKNOWN, front, lend, say, say_one, say_word};
+use say::{front, lend, say_word};
 use state::{State, fresh_start};
+use std::io;
+use std::io::{Read, Write};
 use writing_cases::{fill_content, say_writing};
 
 // A verb is known by its first four letters.
@@ -78,63 +81,81 @@ fn prepared(made: Made, verb: u32, n: [u32; 16]) -> Made {
 }
 
 // Tells what a case about octets comes to; answers whether it is one.
-fn is_octets(line: &[u8], verb: u32, n: [u32; 16], content: &[u8]) -> bool {
+fn is_octets<W: Write>(
+    to: &mut W,
+    line: &[u8],
+    verb: u32,
+    n: [u32; 16],
+    content: &[u8],
+) -> io::Result<bool> {
     match verb {
-        READ => say_reading(line, false),
-        WALK => say_reading(line, true),
-        WRIT => say_writing(be32_at(line, 6), n, content),
-        _ => return false,
+        READ => say_reading(to, line, false)?,
+        WALK => say_reading(to, line, true)?,
+        WRIT => say_writing(to, be32_at(line, 6), n, content)?,
+        _ => return Ok(false),
     }
-    true
+    Ok(true)
 }
 
 // The state after a call of the lanes, which is told.
-fn called(s: State, verb: u32, n: [u32; 16], content: &[u8], pool: &mut [u8]) -> State {
+fn called<W: Write>(
+    to: &mut W,
+    s: State,
+    verb: u32,
+    n: [u32; 16],
+    content: &[u8],
+    pool: &mut [u8],
+) -> io::Result<State> {
     match verb {
-        FRES => fresh_start(),
-        OPEN => open(s, n, pool),
+        FRES => Ok(fresh_start()),
+        OPEN => open(to, s, n, pool),
         PACK => {
             let mut packet = [0u8; 65542];
             let size = put_packet(n, content, &mut packet);
-            send(s, n, front(&packet, size), pool)
+            send(to, s, n, front(&packet, size), pool)
         }
-        CLOS => close(s, n, pool),
-        FILL => fill(s, pool),
+        CLOS => close(to, s, n, pool),
+        FILL => Ok(fill(s, pool)),
         SOUN => {
-            say_sound(s);
-            s
+            say_sound(to, s)?;
+            Ok(s)
         }
         _ => {
-            say_word(UNKNOWN);
-            s
+            say_word(to, "unknown")?;
+            Ok(s)
         }
     }
 }
 
 // Runs one line, and answers what is made after it.
-fn run_line(line: &[u8], made: Made, content: &[u8], pool: &mut [u8]) -> Made {
+fn run_line<W: Write>(
+    to: &mut W,
+    line: &[u8],
+    made: Made,
+    content: &[u8],
+    pool: &mut [u8],
+) -> io::Result<Made> {
     let verb = be32_at(line, 0);
     let n = numbers_of(line);
     if is_silent(verb) {
-        return prepared(made, verb, n);
+        return Ok(prepared(made, verb, n));
     }
-    say(line);
-    say_one(b':');
-    if is_octets(line, verb, n, content) {
-        say_one(b'\n');
-        return made;
+    to.write_all(line)?;
+    to.write_all(b":")?;
+    if is_octets(to, line, verb, n, content)? {
+        to.write_all(b"\n")?;
+        return Ok(made);
     }
-    let state = made.state;
-    let state = called(state, verb, n, content, lend(pool, made.pool));
-    say_one(b'\n');
-    Made {
+    let state = called(to, made.state, verb, n, content, lend(pool, made.pool))?;
+    to.write_all(b"\n")?;
+    Ok(Made {
         state,
         pool: made.pool,
-    }
+    })
 }
 
 // Runs each line of the text that has an end.
-fn run_lines(text: &[u8], content: &[u8], pool: &mut [u8]) {
+fn run_lines<W: Write>(to: &mut W, text: &[u8], content: &[u8], pool: &mut [u8]) -> io::Result<()> {
     let mut made = Made {
         state: fresh_start(),
         pool: 16384,
@@ -143,23 +164,38 @@ fn run_lines(text: &[u8], content: &[u8], pool: &mut [u8]) {
     let mut i = 0;
     while i < text.len() {
         if text[i] == b'\n' {
-            made = run_line(part(text, start, i), made, content, pool);
+            made = run_line(to, part(text, start, i), made, content, pool)?;
             start = i + 1;
         }
         i += 1;
     }
+    Ok(())
 }
 
-fn main() {
-    let mut input = io::large_buffer();
-    let count = io::read_full(STDIN_FILENO, &mut input);
+// Reads until the room is full or the input ends, and answers how many octets came.
+fn read_full<R: Read>(input: &mut R, room: &mut [u8]) -> io::Result<usize>
+    ensures { IfOk result (λ n. n ≤ length room.new) }
+{
+    let mut done = 0;
+    while done < room.len() {
+        let count = input.read(&mut room[done..])?;
+        if count == 0 {
+            break;
+        }
+        done += count;
+    }
+    Ok(done)
+}
+
+fn main(rt: HostRuntime) -> io::Result<()> {
+    let mut input = [0u8; 65536];
+    let count = read_full(&mut rt.stdin(), &mut input)?;
     // What fills the buffer may go on.
     if 65535 < count {
-        say(b"too long\n");
-        return;
+        return rt.stdout().write_all(b"too long\n");
     }
     let mut content = [0u8; 65537];
     let mut pool = [0u8; 16385];
     fill_content(&mut content);
-    run_lines(&input[..count], &content, &mut pool);
+    run_lines(&mut rt.stdout(), &input[..count], &content, &mut pool)
 }

@@ -1,21 +1,20 @@
 // Cases about octets: reading and walking packets, and reading records.
 use crate::line::{octets_from, put_octets_from};
-use crate::say::{
-    AT, DATA, ENCAP, RECORD, RECORDS, REFUSED, SPACE, front, say_five, say_number, say_octets,
-    say_with, say_word,
-};
+use crate::say::{front, say_five, say_number, say_octets, say_with, say_word};
 use octets::{be32_at, octet_at};
 use packet::Packet;
 use record::{RecordFile, RecordRead};
+use std::io;
+use std::io::Write;
 
 // A refusal of reading, with its place.
-pub(crate) fn say_unread(number: u8, place: u32) {
-    say_with(REFUSED, number as u64);
-    say_number(place as u64);
+pub(crate) fn say_unread<W: Write>(to: &mut W, number: u8, place: u32) -> io::Result<()> {
+    say_with(to, "refused", number as u64)?;
+    say_number(to, place as u64)
 }
 
 // The answer in the order of the reader's fields.
-fn say_packet(p: Packet) {
+fn say_packet<W: Write>(to: &mut W, p: Packet) -> io::Result<()> {
     match p {
         Packet::Space {
             packet_type,
@@ -26,14 +25,15 @@ fn say_packet(p: Packet) {
             octets,
         } => {
             say_five(
-                SPACE,
+                to,
+                "space",
                 packet_type as u64,
                 secondary as u64,
                 apid as u64,
                 flags as u64,
                 count as u64,
-            );
-            say_number(octets as u64);
+            )?;
+            say_number(to, octets as u64)
         }
         Packet::Encapsulation {
             protocol,
@@ -42,60 +42,63 @@ fn say_packet(p: Packet) {
             header,
             octets,
         } => say_five(
-            ENCAP,
+            to,
+            "encap",
             protocol as u64,
             user as u64,
             extension as u64,
             header as u64,
             octets as u64,
         ),
-        Packet::Refused { number, place } => say_unread(number, place),
+        Packet::Refused { number, place } => say_unread(to, number, place),
     }
 }
 
-fn say_read(s: &[u8]) {
-    say_packet(reading::read_packet(s));
-    say_word(DATA);
-    say_octets(reading::data_of(s));
+fn say_read<W: Write>(to: &mut W, s: &[u8]) -> io::Result<()> {
+    say_packet(to, reading::read_packet(s))?;
+    say_word(to, "data")?;
+    say_octets(to, reading::data_of(s))
 }
 
-fn say_walk(s: &[u8]) {
+fn say_walk<W: Write>(to: &mut W, s: &[u8]) -> io::Result<()> {
     let walked = walk::walk(s);
-    say_number(walked.at as u64);
-    say_number(walked.packets as u64);
-    say_number(walked.refused as u64);
+    say_number(to, walked.at as u64)?;
+    say_number(to, walked.packets as u64)?;
+    say_number(to, walked.refused as u64)?;
     if walked.refused != 0 {
-        say_number(walked.place as u64);
+        say_number(to, walked.place as u64)?;
     }
+    Ok(())
 }
 
-pub(crate) fn say_record(s: &[u8]) {
+pub(crate) fn say_record<W: Write>(to: &mut W, s: &[u8]) -> io::Result<()> {
     let read = record::read_record(s);
     match read {
         RecordRead::Fields(r) => {
             say_five(
-                RECORD,
+                to,
+                "record",
                 r.station as u64,
                 r.apid as u64,
                 r.units as u64,
                 r.packets as u64,
                 r.missing as u64,
-            );
-            say_number(r.broken as u64);
+            )?;
+            say_number(to, r.broken as u64)
         }
-        RecordRead::Refused(number) => say_with(REFUSED, number as u64),
+        RecordRead::Refused(number) => say_with(to, "refused", number as u64),
     }
 }
 
-fn say_file(s: &[u8]) {
+fn say_file<W: Write>(to: &mut W, s: &[u8]) -> io::Result<()> {
     let file = record::read_record_file(s);
     match file {
-        RecordFile::Records(n) => say_with(RECORDS, n as u64),
+        RecordFile::Records(n) => say_with(to, "records", n as u64),
         RecordFile::Impossible(index) => {
-            say_with(REFUSED, 25);
-            say_with(AT, index as u64);
+            say_with(to, "refused", 25)?;
+            say_with(to, "at", index as u64)
         }
-        RecordFile::Ragged => say_with(REFUSED, 26),
+        RecordFile::Ragged => say_with(to, "refused", 26),
     }
 }
 
@@ -112,18 +115,18 @@ fn octets_at(line: &[u8]) -> usize {
     }
 }
 
-pub(crate) fn say_reading(line: &[u8], walks: bool) {
-    let mut room = io::buffer();
+pub(crate) fn say_reading<W: Write>(to: &mut W, line: &[u8], walks: bool) -> io::Result<()> {
+    let mut room = [0u8; 4096];
     let at = octets_at(line);
     put_octets_from(line, at, &mut room);
     let s = front(&room, octets_from(line, at));
     if walks {
-        say_walk(s);
+        say_walk(to, s)
     } else if at == 5 {
-        say_read(s);
+        say_read(to, s)
     } else if at == 12 {
-        say_record(s);
+        say_record(to, s)
     } else {
-        say_file(s);
+        say_file(to, s)
     }
 }

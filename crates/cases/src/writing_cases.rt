@@ -1,11 +1,11 @@
 // Cases of writing packets and records: what the writer answered, the front of the output, and its octets around the end of what was written.
 use crate::line::at;
-use crate::say::{
-    END, OUTPUT, REFUSED, WROTE, front, lend, say_octet, say_octets, say_with, say_word,
-};
+use crate::say::{front, lend, say_octet, say_octets, say_with, say_word};
 use octets::octet_at;
 use putting::put_octet;
 use record::{Record, RecordWritten, write_record};
+use std::io;
+use std::io::Write;
 use writing::{Written, write_encapsulation, write_space};
 
 const ENCA: u32 = 0x656E6361;
@@ -22,14 +22,15 @@ pub(crate) fn fill_content(content: &mut [u8]) {
 }
 
 // The first 24 octets of the output, the last of the n that were written, and the next.
-pub(crate) fn say_output(out: &[u8], n: usize) {
-    say_word(OUTPUT);
-    say_octets(front(out, 24));
+pub(crate) fn say_output<W: Write>(to: &mut W, out: &[u8], n: usize) -> io::Result<()> {
+    say_word(to, "output")?;
+    say_octets(to, front(out, 24))?;
     if n > 0 {
-        say_word(END);
-        say_octet(octet_at(out, n - 1));
-        say_octet(octet_at(out, n));
+        say_word(to, "end")?;
+        say_octet(to, octet_at(out, n - 1))?;
+        say_octet(to, octet_at(out, n))?;
     }
+    Ok(())
 }
 
 // The record in the numbers: station, APID, units, packets, missing, broken.
@@ -72,22 +73,27 @@ fn write(what: u32, n: [u32; 16], content: &[u8], out: &mut [u8]) -> Written {
     as_packet(write_record(record_of(n), out))
 }
 
-fn say_written(written: Written, out: &[u8]) {
+fn say_written<W: Write>(to: &mut W, written: Written, out: &[u8]) -> io::Result<()> {
     match written {
         Written::Octets(n) => {
-            say_with(WROTE, n as u64);
-            say_output(out, n);
+            say_with(to, "wrote", n as u64)?;
+            say_output(to, out, n)
         }
         Written::Refused(number) => {
-            say_with(REFUSED, number as u64);
-            say_output(out, 0);
+            say_with(to, "refused", number as u64)?;
+            say_output(to, out, 0)
         }
     }
 }
 
 // What is written: `encap`, `space` or `record`, by its first four letters.
-pub(crate) fn say_writing(what: u32, n: [u32; 16], content: &[u8]) {
+pub(crate) fn say_writing<W: Write>(
+    to: &mut W,
+    what: u32,
+    n: [u32; 16],
+    content: &[u8],
+) -> io::Result<()> {
     let mut out = [0xA5u8; 65544];
     let written = write(what, n, content, &mut out);
-    say_written(written, &out);
+    say_written(to, written, &out)
 }
