@@ -1,9 +1,9 @@
 -- The three answers to a frame, by the first test that holds: what is told, and what is left of buffer and output.
 use Prim.Native.Nat.{ℕ}
-use mathlib.Core.Path.{◌≡◌, refl, sym, ap, ◌∙◌}
+use mathlib.Core.Path.{◌≡◌, sym, ap, ◌∙◌}
 use mathlib.Core.List.{List}
-use mathlib.Core.Bool.{true, false, cond, not}
-use borrow.Author.Tests.{eq-eqb, ne_eqb, eqb-true, not_false}
+use mathlib.Core.Bool.{true, false, not}
+use borrow.Author.Tests.{eq-eqb, ne_eqb, eqb-true, not-false}
 use lib.Dec.{eqb}
 use lib.ListN.{length}
 use Rattle.octets.specs.Output.{put}
@@ -39,7 +39,7 @@ module _ (state : Frames) (count pointer : ℕ) (field buffer out : List ℕ) wh
   unfolding framed
   refusal_told =
       either (not (eqb refusal 0)) (λ t. simp t)
-      (λ f. let zero = eqb-true refusal 0 (not_false _ f) in
+      (λ f. let zero = eqb-true refusal 0 (not-false _ f) in
       either (repeats state count) (λ r. simp (f, r) (sym zero)) (λ r. simp (f, r) (sym zero)))
 
   pub refused_leaves : (refusal ≡ 0 → ⊥)

@@ -3,7 +3,7 @@ use Prim.Native.Nat.{ℕ, ◌≤◌, ◌<◌}
 use mathlib.Core.Path.{◌≡◌}
 use mathlib.Core.Bool.{false}
 use native.Mathlib.Omega.{arith}
-use borrow.Author.Tests.{eqb-true, ltb-false, leb-false, not_false}
+use borrow.Author.Tests.{eqb-true, ltb-false, leb-false, not-false}
 use lib.Dec.{ltb}
 use Rattle.octets.proofs.Order.{either, neither}
 use Rattle.frames.specs.Frames.{wrong, frame_refusal}
@@ -35,7 +35,7 @@ module _ (state : Frames) (count pointer n b room : ℕ) where
       record {
         field_some = ltb-false n 8 w.0;
         field_most = ltb-false 2046 n w.1;
-        buffer_is = eqb-true b 8192 (not_false _ v.1);
+        buffer_is = eqb-true b 8192 (not-false _ v.1);
         count_most = leb-false 256 count u.1;
         piece_most = ltb-false 8191 state.piece y.1;
         room_enough = ltb-false room 10238 x.1;

@@ -1,7 +1,7 @@
 -- A frame that is not refused, in plain variables: everything fits, and what the code puts is what the definitions say.
 use Prim.Native.Nat.{ℕ, zero, suc, ◌+◌, ◌-◌, ◌≤◌, ◌<◌, min}
 use mathlib.Core.Path.{◌≡◌, refl, sym, ap, ◌∙◌}
-use mathlib.Core.List.{List, [], ◌∷◌, ◌++◌}
+use mathlib.Core.List.{List, [], ◌++◌}
 use mathlib.Core.Bool.{Bool, true, false, cond, not, ◌&&◌, ◌||◌}
 use native.Mathlib.Omega.{arith}
 use borrow.Author.Tests.{eqb-true}
@@ -12,7 +12,7 @@ use Rattle.octets.specs.Octets.{one}
 use Rattle.octets.specs.Output.{put}
 use Rattle.octets.proofs.Order.{either, both}
 use Rattle.walk.specs.Walk.{read_at, next, places_from, places, end}
-use Rattle.pieces.specs.Pieces.{unfinished, ahead, drops, rest_of}
+use Rattle.pieces.specs.Pieces.{unfinished, rest_of}
 use Rattle.pieces.specs.declared.Rest.{Rest}
 use Rattle.pieces.proofs.Short.{unfinished_short}
 use Rattle.pieces.proofs.Parts.{from_pointer, up_to_pointer, ends_inside, after_packets}

@@ -15,7 +15,7 @@ use putting::put_octets;
 
 // What the frames before left: whether there was one, its count, and the octets of the piece at the front of the lent buffer.
 #[repr(C)]
-#[derive(Drop)]
+#[derive(Clone, Copy)]
 pub struct Frames {
     pub started: bool,
     pub count: u8,
