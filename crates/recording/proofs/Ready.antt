@@ -3,7 +3,7 @@
 use Prim.Native.Nat.{ℕ, ◌+◌, ◌%◌, ◌≤◌, ◌<◌}
 use mathlib.Core.Path.{◌≡◌, refl}
 use mathlib.Core.List.{List, []}
-use mathlib.Core.Bool.{true, false, not, and_false}
+use mathlib.Core.Bool.{true, false, not, and-false}
 use native.Mathlib.Omega.{arith}
 use borrow.Author.Tests.{eq-eqb, ne_eqb, eqb-true, eqb-false}
 use lib.Dec.{eqb}
@@ -37,7 +37,7 @@ module _ {state : Frames} {buffer : List ℕ} {count lost : ℕ} {k : List ℕ} 
       either (eqb state.piece 0) (λ z. nothing (simp z) (none_there k (omega (arith, eqb-true state.piece 0 z))))
       (λ z. something (simp (z, s, eq-eqb count ((state.count + 1) % frame_counts) e)) t (omega (arith, eqb-false state.piece 0 z)))
   holds (misses s c l m e z) =
-      nothing (simp (s, ne_eqb count ((state.count + 1) % frame_counts) (λ i. omega arith)) (and_false (not (eqb state.piece 0)))) z
+      nothing (simp (s, ne_eqb count ((state.count + 1) % frame_counts) (λ i. omega arith)) (and-false (not (eqb state.piece 0)))) z
 
   -- the next frame is lost, and with it what was sent of the packet
   pub ready_lost : Ready state buffer count lost k → lost < most_lost → {k' : List ℕ} → k' ≡ [] → Ready state buffer ((count + 1) % frame_counts) (lost + 1) k'

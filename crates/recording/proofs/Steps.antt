@@ -3,7 +3,7 @@
 use Prim.Native.Nat.{ℕ, ◌+◌, ◌≤◌, ◌<◌}
 use mathlib.Core.Path.{◌≡◌, refl, sym, ap, subst, ◌∙◌}
 use mathlib.Core.List.{List, [], ◌∷◌, ◌++◌, append_assoc, append-nil, append_cancel_left, flatten}
-use mathlib.Core.Bool.{Bool, true, false, cond, ◌&&◌, and_false, and_true}
+use mathlib.Core.Bool.{Bool, true, false, cond, ◌&&◌, and-false, and-true}
 use native.Mathlib.Omega.{arith}
 use native.Mathlib.Nat.{zero-add}
 use borrow.Author.Tests.{lt-ltb, le-ltb, ltb-true, ltb-false, leb-true, leb-false}
@@ -203,7 +203,7 @@ module _ (r : Bool) (sent b : List ℕ) (more : List (List ℕ)) (came : List Bo
           (λ t. let (i, p) = goes_on_lem (simp t at h) some in
           let j : frame.joined state count pointer (b ++ f) piece ≡ sent ++ b = rw (at_pointer.0, p) in
           let (x, y) = by_joined state count pointer (b ++ f) piece i at_pointer.2 in
-          simp t (rw j at (resumed true (x ∙ rw j o) (y ∙ rw (j, packet_ends (sent ++ b) is_one.read) (and_false (eqb pointer no_packet))))))
+          simp t (rw j at (resumed true (x ∙ rw j o) (y ∙ rw (j, packet_ends (sent ++ b) is_one.read) (and-false (eqb pointer no_packet))))))
           (λ t. let (x, y) = gives_up_lem state count pointer (b ++ f) piece (goes_not h (simp t)) in
           simp t (resumed false x y))
 
@@ -219,8 +219,8 @@ module _ (r : Bool) (sent b : List ℕ) (more : List (List ℕ)) (came : List Bo
       later_on = w.later_on;
       wholes = ends_wholes;
       nexts = ends_nexts;
-      lost = λ z. rw z (simp (and_false (all_came came)), kept_lost w.left);
-      taken = λ z state count piece h. simp (from_inside sent b more some cut, z, and_true (all_came came), came_all (length w.left)) (ends_took state count piece h);
+      lost = λ z. rw z (simp (and-false (all_came came)), kept_lost w.left);
+      taken = λ z state count piece h. simp (from_inside sent b more some cut, z, and-true (all_came came), came_all (length w.left)) (ends_took state count piece h);
     }
 
   -- the field has a part of b
@@ -263,10 +263,10 @@ module _ (r : Bool) (sent b : List ℕ) (more : List (List ℕ)) (came : List Bo
           later_on = rw (← on, longer) (simp append_assoc);
           wholes = λ m. rw (append_assoc came (replicate (length f) r) m);
           nexts = λ at. ap (to_next ((sent ++ b) ∷ more)) (omega (arith, length-append sent f));
-          lost = λ z. (refl, rw z (simp (came_append came (replicate (length f) false), came_none (length f) there, and_false (all_came came))));
+          lost = λ z. (refl, rw z (simp (came_append came (replicate (length f) false), came_none (length f) there, and-false (all_came came))));
           taken = λ z state count piece h.
               simp (from_inside sent b more some cut, le-ltb (length b) (length f) (omega (arith, ap length e)), z)
-              (simp (came_append came (replicate (length f) true), came_all (length f), and_true (all_came came)) (inside_took state count piece h));
+              (simp (came_append came (replicate (length f) true), came_all (length f), and-true (all_came came)) (inside_took state count piece h));
         }
 
 -- ---- a frame, wherever the sender stands
