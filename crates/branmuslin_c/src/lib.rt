@@ -1,0 +1,110 @@
+// What a C program calls to read and write packets and records, as include/branmuslin.h declares it: each function is that of the crate branmuslin
+// by its own name, with the same clauses. A crate is a library or one for C, and not both.
+#![tactic(auto)]
+
+ghost use Rattle.std.specs.Prelude.{◌≡◌, length};
+ghost use Rattle.reading.specs.Reading.{refusal};
+ghost use Rattle.writing.specs.Space.{space_refusal, space_after};
+ghost use Rattle.writing.specs.Encapsulation.{encap_refusal, encap_after};
+ghost use Rattle.record.specs.Reading.{record_refusal, file_refusal};
+ghost use Rattle.record.specs.Writing.{writing_refusal, record_after};
+ghost use Rattle.branmuslin.specs.Lent.{packet_after, place_after, space_written_after, encap_written_after, handed, record_numbers_after, records_after, index_after};
+
+// Reads the packet at the front of the octets into the numbers of struct branmuslin_packet; or tells the refusal with its place.
+#[unsafe(no_mangle)]
+pub extern "C" fn branmuslin_read_packet(
+    octets: &[u8],
+    numbers: &mut [u32; 11],
+    place: &mut usize,
+) -> u8
+    ensures value { result ≡ refusal octets.now }
+    ensures numbers_after { numbers.new ≡ packet_after octets.now numbers.old }
+    ensures place_after { place.new ≡ place_after octets.now place.old }
+{
+    branmuslin::branmuslin_read_packet(octets, numbers, place)
+}
+
+// Writes a Space Packet at the front of out, and tells its octets.
+#[unsafe(no_mangle)]
+pub extern "C" fn branmuslin_write_space(
+    packet_type: u32,
+    secondary: u32,
+    apid: u32,
+    flags: u32,
+    count: u32,
+    field: &[u8],
+    out: &mut [u8],
+    written: &mut usize,
+) -> u8
+    ensures value { result ≡ space_refusal packet_type secondary apid flags count (length field.now) (length out.old) }
+    ensures out_after { out.new ≡ space_after packet_type secondary apid flags count field.now out.old }
+    ensures written_after { written.new ≡ space_written_after packet_type secondary apid flags count field.now out.old written.old }
+{
+    branmuslin::branmuslin_write_space(
+        packet_type,
+        secondary,
+        apid,
+        flags,
+        count,
+        field,
+        out,
+        written,
+    )
+}
+
+// Writes an Encapsulation Packet at the front of out, and tells its octets.
+#[unsafe(no_mangle)]
+pub extern "C" fn branmuslin_write_encapsulation(
+    protocol: u32,
+    user: u32,
+    extension: u32,
+    content: &[u8],
+    out: &mut [u8],
+    written: &mut usize,
+) -> u8
+    ensures value { result ≡ encap_refusal protocol user extension (length content.now) (length out.old) }
+    ensures out_after { out.new ≡ encap_after protocol user extension content.now out.old }
+    ensures written_after { written.new ≡ encap_written_after protocol user extension content.now out.old written.old }
+{
+    branmuslin::branmuslin_write_encapsulation(protocol, user, extension, content, out, written)
+}
+
+// Writes a record at the front of out.
+#[unsafe(no_mangle)]
+pub extern "C" fn branmuslin_write_record(
+    station: u16,
+    apid: u16,
+    units: u32,
+    packets: u32,
+    missing: u32,
+    broken: u32,
+    out: &mut [u8],
+) -> u8
+    ensures value { result ≡ writing_refusal (handed station apid units packets missing broken) (length out.old) }
+    ensures out_after { out.new ≡ record_after (handed station apid units packets missing broken) out.old }
+{
+    branmuslin::branmuslin_write_record(station, apid, units, packets, missing, broken, out)
+}
+
+// Reads one record into the numbers of struct branmuslin_record.
+#[unsafe(no_mangle)]
+pub extern "C" fn branmuslin_read_record(octets: &[u8], numbers: &mut [u32; 6]) -> u8
+    ensures value { result ≡ record_refusal octets.now }
+    ensures numbers_after { numbers.new ≡ record_numbers_after octets.now numbers.old }
+{
+    branmuslin::branmuslin_read_record(octets, numbers)
+}
+
+// Reads a file of records: tells its number of records or, with 25, the index of the first impossible one.
+#[unsafe(no_mangle)]
+pub extern "C" fn branmuslin_read_record_file(
+    octets: &[u8],
+    records: &mut usize,
+    index: &mut usize,
+) -> u8
+    ensures value { result ≡ file_refusal octets.now }
+    ensures records_after { records.new ≡ records_after octets.now records.old }
+    ensures index_after { index.new ≡ index_after octets.now index.old }
+{
+    branmuslin::branmuslin_read_record_file(octets, records, index)
+}
