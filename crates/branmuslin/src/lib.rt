@@ -4,7 +4,7 @@
 // header.
 #![tactic(auto)]
 
-mod numbers;
+mod struct_numbers;
 
 ghost use Rattle.std.specs.Prelude.{◌≡◌, length};
 ghost use Rattle.reading.specs.Reading.{refusal};
@@ -14,9 +14,9 @@ ghost use Rattle.record.specs.Reading.{record_refusal, file_refusal};
 ghost use Rattle.record.specs.Writing.{writing_refusal, record_after};
 ghost use Rattle.branmuslin.specs.Lent.{packet_after, place_after, space_written_after, encap_written_after, handed, record_numbers_after, records_after, index_after};
 
-use numbers::{encapsulation_numbers, space_numbers};
 use packet::Packet;
 use record::{Record, RecordFile, RecordRead, RecordWritten};
+use struct_numbers::{encapsulation_numbers, space_numbers};
 use writing::Written;
 
 // Reads the packet at the front of the octets into the numbers of struct branmuslin_packet; or tells the refusal with its place.
