@@ -25,7 +25,7 @@ pub struct Frames {
 // What a frame is answered. kind: 0 refused, 1 repeat, 2 taken; given_up: a piece was given up; dropped: the rest of the field was; packets and their octets
 // are those at the front of the output.
 #[repr(C)]
-#[derive(Drop)]
+#[derive(Clone, Copy)]
 pub struct Framed {
     pub refusal: u8,
     pub kind: u8,
