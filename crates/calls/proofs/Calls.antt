@@ -5,7 +5,7 @@ use mathlib.Core.Path.{◌≡◌, refl, ◌∙◌}
 use mathlib.Core.Bool.{true, false, not}
 use mathlib.Core.List.{List}
 use native.Mathlib.Omega.{arith}
-use borrow.Author.Tests.{ltb-false, not_false}
+use borrow.Author.Tests.{ltb-false, not-false}
 use lib.Dec.{ltb}
 use lib.ListN.{set, length-set}
 use Rattle.lane.specs.declared.Settings.{Settings}
@@ -63,7 +63,7 @@ module _ (s : State) (k : Sound s) (i : ℕ) where
         let c = passes (lane_at s i).opened 21 _ (λ t. omega arith) b.1 in
         let d = passes (illegal settings) 22 _ (λ t. omega arith) c.1 in
         let f = passes (not (within (set s.lanes i (opened_with settings)))) 23 0 (λ t. omega arith) d.1 in
-        (omega (arith, ltb-false 7 i b.0), c.0, d.0, not_false _ f.0)
+        (omega (arith, ltb-false 7 i b.0), c.0, d.0, not-false _ f.0)
 
     pub opening_sound : Sound (opening s i settings octets).state
     unfolding opening released_from
@@ -78,7 +78,7 @@ module _ (s : State) (k : Sound s) (i : ℕ) where
   closed_at octets room e =
       let a = passes (unsound s octets) 24 _ (λ t. omega arith) e in
       let b = passes (not (lane_at s i).opened) 11 _ (λ t. omega arith) a.1 in
-      not_false _ b.0
+      not-false _ b.0
 
   pub closed_small : (octets room : ℕ) → closing_refusal s i octets room ≡ 0 → i < 8
   closed_small octets room e = opened_small s k i (closed_at octets room e)

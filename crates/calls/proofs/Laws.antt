@@ -24,7 +24,7 @@ use Rattle.grouping.specs.Grouping.{missing_before}
 use Rattle.grouping.specs.Steps.{lane_after}
 use Rattle.lane.proofs.Fine.{is_fine, held_most}
 use Rattle.state.specs.declared.State.{State}
-use Rattle.state.specs.State.{fresh_state, lane_at, within, sound, unsound}
+use Rattle.state.specs.State.{fresh_state, lane_at, sound, unsound}
 use Rattle.intake.specs.Calls.{closing_refusal, packet_step}
 use Rattle.intake.specs.After.{released_from, marks_after, pool_after, out_after, group_of, user_of, opening, closing, closing_out, taking, taking_pool, taking_out}
 use Rattle.state.proofs.Soundness.{then_sound}

@@ -5,7 +5,7 @@ use mathlib.Core.Path.{◌≡◌, refl, sym, ◌∙◌}
 use mathlib.Core.Bool.{Bool, true, false, cond, not, ◌&&◌}
 use mathlib.Core.List.{List, [], ◌∷◌, ◌++◌}
 use native.Mathlib.Omega.{arith}
-use borrow.Author.Tests.{le-ltb, eqb-true, eqb-false, eq-eqb, ne_eqb, not-true, not_false}
+use borrow.Author.Tests.{le-ltb, eqb-true, eqb-false, eq-eqb, ne_eqb, not-true, not-false}
 use lib.Dec.{eqb, ltb, leb}
 use lib.ListN.{get_or, set}
 use Rattle.octets.specs.Order.{Test, ◌gives◌, first, numbers_of}
@@ -126,4 +126,4 @@ ordered s shape i p octets room =
     (λ r. simp r (either (not (eqb (fault (terms_of l) p) 0)) (λ b. simp b)
     (λ b. simp b (either (repeats l (count p)) (λ c. simp c)
     (λ c. simp c (either (leb most_packets l.packets) (λ d. simp d)
-    (λ d. simp d (grouping s.lanes i room (share_fits s.lanes i (not_false _ a) 0 (omega (arith, none_held)) (is_sound s shape (then_sound s octets e).0).room) p)))))))))))))
+    (λ d. simp d (grouping s.lanes i room (share_fits s.lanes i (not-false _ a) 0 (omega (arith, none_held)) (is_sound s shape (then_sound s octets e).0).room) p)))))))))))))

@@ -5,7 +5,7 @@ use mathlib.Core.Bool.{true, false, not, ◌&&◌, true≢false}
 use mathlib.Core.List.{List}
 use mathlib.Core.Logic.{◌⊎◌, inl, inr, ◌↔◌}
 use native.Mathlib.Omega.{arith}
-use borrow.Author.Tests.{eqb-true, ltb-true, ltb-false, leb-false, lt-ltb, le-ltb, lt-leb, not-true, not_false}
+use borrow.Author.Tests.{eqb-true, ltb-true, ltb-false, leb-false, lt-ltb, le-ltb, lt-leb, not-true, not-false}
 use lib.Dec.{eqb, ltb, leb}
 use lib.ListN.{length, get_or, set}
 use Rattle.octets.specs.Order.{first, numbers_of}
@@ -70,7 +70,7 @@ module _ (ls : List Lane) (i : ℕ) (p : List ℕ) (room : ℕ) where
       (λ b. of_either Why (repeats own (count p)) (λ c. other 0 (inl (omega arith)))
       (λ c. of_either Why (leb most_packets own.packets) (λ d. other 18 (inl (omega arith)))
       (λ d.
-      let asks : NothingBefore own p = (not_false _ a, eqb-true _ _ (not_false _ b), c, leb-false most_packets own.packets d) in
+      let asks : NothingBefore own p = (not-false _ a, eqb-true _ _ (not-false _ b), c, leb-false most_packets own.packets d) in
       of_either Why (ltb own.settings.cap h) (λ e. (λ z. (asks, ltb-true own.settings.cap h e), λ z. absurd (omega arith)))
       (λ e. of_either Why (not (within (lanes_with ls i p))) (λ f. (λ z. absurd (omega arith), λ z. (asks, ltb-false own.settings.cap h e, not-true _ f)))
       (λ f. of_either Why (ltb room (would_write own p)) (λ g. other 20 (inr refl)) (λ g. other 0 (inl (omega arith))))))))))
