@@ -25,6 +25,7 @@ ENTRY = '_entry'
 TOKEN = re.compile(r"[^\s(){}\[\].,;:\"`|∷]+")
 DECL = re.compile(r"^\s*(?:abbrev |unfoldable |pub |data |record )*([^\s:=(){}]+(?: [^\s:=(){}]+)*?)(?: [({].*)? :(?:\s|$)")
 ALIAS = re.compile(r"^(?:ghost )?use \S+ as ([^\s;]+)")
+KIT = re.compile(r"^(?:ghost )?use (?!Rattle·)\S+\.\{(.*)\}")
 PATH = re.compile(r"^(?:ghost )?use [^\s{]+")
 WORDS = {'use', 'module', 'where', 'let', 'open', 'unfolding', 'infix', 'infixl', 'infixr', 'elim', 'in', 'λ', '→', '↦', '|', '--', '≡', '×', '_', 'mutual'}
 
@@ -111,7 +112,9 @@ for p in sorted(new):
             for y in {x, snake(x)} | made.get(x, set()):
                 if y in now:
                     alias[y] = camel(x)
-    for x in sorted(there & own):
+    # a name that a file takes from the kit is the kit's there
+    kit = {x.split(' as ')[0].strip() for m in map(KIT.match, old[p].split('\n')) if m for x in m.group(1).split(',')}
+    for x in sorted((there & own) - kit):
         if p.count('/') > 3 and '/proofs/' in p and ANSWER.match(x):
             continue
         for y in made[x]:
