@@ -7,7 +7,7 @@ use mathlib.Core.List.{List, [], ◌∷◌, ◌++◌}
 use mathlib.Core.Option.{Option, none, some}
 use native.Mathlib.Numerals.{add-one}
 use native.Mathlib.Omega.{arith}
-use borrow.Author.Tests.{eqb-true, eqb-false, not-true, not_false}
+use borrow.Author.Tests.{eqb-true, eqb-false, not-true, not-false}
 use lib.Dec.{eqb, ltb, leb, eqb-suc-zero}
 use lib.ListN.{length, get_or, set, length-append}
 use Rattle.octets.specs.Octets.{one}
@@ -181,7 +181,7 @@ module _ (s : Settings) (ps : List Taken) (small : last_count ps < counts) (p ou
         let e : left ≡ none = ended (group ps) (breaks ps q) q.user (sym goes_same ∙ not-true goes g) in
         strays (simp (no3, e, none_either)) (simp (no1, e, none_either)))
         (λ g.
-        let e : left ≡ some (whole true) = goes_on_lem (group ps) (breaks ps q) q.user (sym goes_same ∙ not_false goes g) in
+        let e : left ≡ some (whole true) = goes_on_lem (group ps) (breaks ps q) q.user (sym goes_same ∙ not-false goes g) in
         rw (← length-append (octets_in (group ps)) q.user)
         (of_either Plans (eqb (flags p) 0) (λ f. let z = eqb-true (flags p) 0 f in holds true (simp z) (rw e (simp z)))
         (λ no0.
@@ -197,7 +197,7 @@ module _ (s : Settings) (ps : List Taken) (small : last_count ps < counts) (p ou
   planned =
       of_either Plans (not (eqb (refusal p) 0)) (λ r ls at. unread (eqb-false _ _ (not-true _ r)))
       (λ r. of_either Plans (not (eqb (fault (terms_of l) p) 0))
-      (λ e ls at. refuses (fault (terms_of l) p) (omega (arith, fault_least (terms_of l) p (eqb-true _ _ (not_false _ r)) (eqb-false _ _ (not-true _ e)))))
+      (λ e ls at. refuses (fault (terms_of l) p) (omega (arith, fault_least (terms_of l) p (eqb-true _ _ (not-false _ r)) (eqb-false _ _ (not-true _ e)))))
       (λ e. of_either Plans (lane.repeats l (count p)) (λ f. repeated (sym (repeats_same s ps p) ∙ f))
       (λ f. of_either Plans (leb most_packets (length ps)) (λ g ls at. refuses 18 (omega arith))
-      (λ g. rw (← (accepted_data (terms_of l) p (eqb-true _ _ (not_false _ e))).1) (grouping (sym (repeats_same s ps p) ∙ f))))))
+      (λ g. rw (← (accepted_data (terms_of l) p (eqb-true _ _ (not-false _ e))).1) (grouping (sym (repeats_same s ps p) ∙ f))))))
