@@ -24,7 +24,6 @@ use Rattle.record.proofs.RoundTrip.{same_back, read_output, write_read, accepted
 use Rattle.writing.specs.Carries.{IsShortest}
 use Rattle.writing.proofs.Shortest.{is_shortest}
 use Rattle.writing.proofs.RoundTrips.{small_part, space_output, encap_output, space_written, encap_written}
-use Rattle.rule.specs.Rule.{credit}
 use Rattle.rule.proofs.Slots.{Slot}
 use Rattle.demands.specs.Runs.{encapsulation_wrote, ours}
 use Rattle.demands.specs.Demand2.{Agrees, SpaceGivenBack, EncapsulationGivenBack, HeaderIsShortest, RecordGivenBack, Possible, file_of, FileGivenBack, SpaceWrittenAgain, EncapsulationWrittenAgain, RecordWrittenAgain}
@@ -35,11 +34,11 @@ agrees : Agrees ours
 agrees = record {
   reads = λ s. refl;
   hands = λ s. refl;
-  writes_space_lem = λ g. refl;
-  writes_encapsulation_lem = λ g. refl;
-  reads_record_lem = λ s. refl;
-  reads_file_lem = λ s. refl;
-  writes_record_lem = λ g. refl;
+  writes_space = λ g. refl;
+  writes_encapsulation = λ g. refl;
+  reads_record = λ s. refl;
+  reads_file = λ s. refl;
+  writes_record = λ g. refl;
 }
 
 -- ---- each reader gives back what its writer was given

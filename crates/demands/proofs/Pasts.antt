@@ -13,7 +13,7 @@ module _ (n : AnyIntake) where
       → past_from n i past x (calls ++ c ∷ []) ≡ cond (names i c) (later (past_from n i past x calls) c (n.reply_to (run n x calls) c)) (past_from n i past x calls)
   unfolding run past_from
   past_more i past x [] c = refl
-  past_more i past x (d ∷ calls) c = past_more i _ (n.leaves x d) calls c
+  past_more i past x (d ∷ calls) c = past_more i (cond (names i d) (later past d (n.reply_to x d)) past) (n.leaves x d) calls c
 
   -- a call of another lane leaves a past; so a source's own calls open no other lane
   not_named : (j : ℕ) (past : Past) (x : Handed) (c : Call) (calls : List Call) → (lane_of c ≡ j → ⊥) → past_from n j past x (c ∷ calls) ≡ past_from n j past (n.leaves x c) calls

@@ -34,11 +34,11 @@ use Rattle.demands.specs.Past.{Past, settings_of, accepted_in, lane_from, lanes_
 pub record Agrees (n : AnyIntake) : Type 0 where
   pub reads : (s : List ℕ) → n.reads s ≡ reading s
   pub hands : (s : List ℕ) → n.hands s ≡ content s
-  pub writes_space_lem : (g : SpacePacket) → n.writes_space g ≡ space_wrote g
-  pub writes_encapsulation_lem : (g : EncapsulationPacket) → n.writes_encapsulation g ≡ encapsulation_wrote g
-  pub reads_record_lem : (s : List ℕ) → n.reads_record s ≡ record_reading s
-  pub reads_file_lem : (s : List ℕ) → n.reads_file s ≡ file_reading s
-  pub writes_record_lem : (g : RecordGiven) → n.writes_record g ≡ record_wrote g
+  pub writes_space : (g : SpacePacket) → n.writes_space g ≡ space_wrote g
+  pub writes_encapsulation : (g : EncapsulationPacket) → n.writes_encapsulation g ≡ encapsulation_wrote g
+  pub reads_record : (s : List ℕ) → n.reads_record s ≡ record_reading s
+  pub reads_file : (s : List ℕ) → n.reads_file s ≡ file_reading s
+  pub writes_record : (g : RecordGiven) → n.writes_record g ≡ record_wrote g
 
 abbrev pub Unrefused : Wrote → Type 0
 Unrefused w = leading w.tells ≡ 0
