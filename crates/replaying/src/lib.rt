@@ -36,7 +36,7 @@ pub struct Ran {
 }
 
 // A chunk of a run's text: where the run stands after it, and its octets.
-#[derive(Drop)]
+#[derive(Clone, Copy)]
 pub struct Chunk {
     pub progress: Progress,
     pub octets: usize,
