@@ -6,8 +6,8 @@ INSTALL ?= install
 CFLAGS ?= -O2 -Wall -Wextra
 
 archive := target/lib/libbranmuslin.a
-parts := branmuslin lanes frames
-proved := $(parts:%=target/staticlib/lib%.a)
+parts := branmuslin_c lanes_c frames_c
+proved := $(foreach part,$(parts),crates/$(part)/out/lib$(part).a)
 header := include/branmuslin.h
 examples := $(patsubst examples/%.c,target/examples/%,$(wildcard examples/*.c))
 release = $(shell sed -n 's/^.define BRANMUSLIN_RELEASE "\(.*\)"/\1/p' $(header))
@@ -21,12 +21,12 @@ no_rt := the library is not built from these sources, and the Rattle toolchain (
 all: $(archive) $(examples)
 
 # The archive has an object for each of three crates, so that each is compiled by itself (docs/DECISIONS.md). It gets the time at which its proving
-# began, so that a file changed meanwhile counts as newer.
-$(archive): crates.txt $(shell find crates)
+# began, so that a file changed meanwhile counts as newer. What rt keeps in a crate's out/ is no source, nor is that folder's coming into the crate's own.
+$(archive): crates.txt $(shell find crates -mindepth 2 -name out -prune -o -print)
 	$(if $(shell command -v rt 2>&1),,$(error $(no_rt)))
 	@mkdir -p $(@D) && touch target/lib/begun
 	@echo 'proving and building the library; from nothing this takes a few minutes'
-	@for crate in $(parts); do rt staticlib $$crate || exit; done >target/lib/log 2>&1 || { tail -n 20 target/lib/log >&2; echo 'the library was not proved or built; see target/lib/log' >&2; exit 1; }
+	@for crate in $(parts); do (cd crates/$$crate && rt lib) || exit; done >target/lib/log 2>&1 || { tail -n 20 target/lib/log >&2; echo 'the library was not proved or built; see target/lib/log' >&2; exit 1; }
 	@rm -f $@ && printf 'create $@\n$(foreach part,$(proved),addlib $(part)\n)save\nend\n' | $(AR) -M
 	@touch -c -r target/lib/begun $@ && rm -f target/lib/begun
 

@@ -142,9 +142,12 @@ credit_full_output() {
     [ $? -eq 1 ] && [ "$(wc -l <"$work/err")" -eq 1 ] && grep 'standard output' "$work/err"
 }
 
+# copies NAME..: a copy of these in $work/copy, but of what rt keeps in the crates' out/, and a folder bin.
+copies() { rm -rf "$work/copy" && mkdir -p "$work/copy/bin" && tar -c --exclude='crates/*/out' "$@" | tar -x -C "$work/copy"; }
+
 # In a copy: with a toolchain that proves nothing one line follows that which says what goes on; with none, or no make, there is one line.
 credit_unbuilt() {
-    rm -rf "$work/copy" && mkdir -p "$work/copy/bin" && cp -R branmuslin Makefile crates crates.txt include examples samples "$work/copy" &&
+    copies branmuslin Makefile crates crates.txt include examples samples &&
         ln -s "$(type -P false)" "$work/copy/bin/rt" || return
     PATH="$work/copy/bin:$PATH" "$work/copy/branmuslin" credit "${settings[@]}" samples/paper.bin >"$work/out" 2>"$work/err"
     [ $? -eq 1 ] && [ ! -s "$work/out" ] && [ "$(wc -l <"$work/err")" -eq 2 ] && grep "'intake' was not proved or built; see" "$work/err" &&
@@ -178,7 +181,7 @@ first_line_only() { [ "$(./branmuslin list samples/every.bin | head -n 1)" = '0 
 
 # With a toolchain that proves nothing: one clear line after the one that says what goes on.
 failed_build() {
-    rm -rf "$work/copy" && mkdir -p "$work/copy/bin" && cp -R branmuslin crates crates.txt samples "$work/copy" &&
+    copies branmuslin crates crates.txt samples &&
         printf '#!/bin/sh\nexit 1\n' >"$work/copy/bin/rt" && chmod +x "$work/copy/bin/rt"
     PATH="$work/copy/bin:$PATH" "$work/copy/branmuslin" list samples/paper.bin >"$work/out" 2>"$work/err"
     [ $? -eq 1 ] && [ ! -s "$work/out" ] && [ "$(wc -l <"$work/err")" -eq 2 ] && grep 'was not proved or built' "$work/err"
@@ -191,7 +194,7 @@ starts_at_once() { ./branmuslin list samples/paper.bin >/dev/null && [ -z "$(./b
 
 # In a copy with nothing built and no rt on the path.
 no_toolchain() {
-    rm -rf "$work/copy" && mkdir "$work/copy" && cp -R branmuslin crates crates.txt samples "$work/copy" &&
+    copies branmuslin crates crates.txt samples &&
         refuses 'toolchain' env PATH=/usr/bin:/bin "$work/copy/branmuslin" list "$work/copy/samples/paper.bin"
 }
 

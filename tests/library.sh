@@ -21,11 +21,12 @@ no_rt_for_make() {
 
 # A file changed since the library was built, or while it was built, makes it outdated.
 changes_are_noticed() {
-    rm -rf "$work/copy" && mkdir -p "$work/copy/crates" "$work/copy/bin" && cp Makefile crates.txt "$work/copy" && : >"$work/copy/crates/a" &&
-        printf '#!/bin/sh\nsleep 0.1; [ ! -e edit ] || touch crates/a\nmkdir -p target/staticlib && rm -f "target/staticlib/lib$2.a" && ar qc "target/staticlib/lib$2.a"\n' \
+    rm -rf "$work/copy" && mkdir -p "$work/copy/crates/"{a,branmuslin_c,lanes_c,frames_c} "$work/copy/bin" && cp Makefile crates.txt "$work/copy" &&
+        : >"$work/copy/crates/a/a" &&
+        printf '#!/bin/sh\nsleep 0.1; [ ! -e ../../edit ] || touch ../a/a\nto=out/lib${PWD##*/}.a; mkdir -p out && rm -f "$to" && ar qc "$to"\n' \
             >"$work/copy/bin/rt" && chmod +x "$work/copy/bin/rt" || return
     (
-        cd "$work/copy" && PATH="$PWD/bin:$PATH" && make "$archive" && make -q "$archive" && sleep 0.1 && touch crates/a &&
+        cd "$work/copy" && PATH="$PWD/bin:$PATH" && make "$archive" && make -q "$archive" && sleep 0.1 && touch crates/a/a &&
             ! make -q "$archive" && touch edit && make "$archive" && ! make -q "$archive" && rm edit && make "$archive" && make -q "$archive"
     )
 }

@@ -25,8 +25,8 @@ nothing_lists_its_end() { [ "$(./branmuslin list </dev/null)" = 'end 0 0' ]; }
 # The program's buffer is as long as the law that says that every text fits.
 buffer_is_as_proved() {
     local proved
-    grep -q '^pub room : .* ≤ mostListed$' crates/listing/proofs/Room.antt &&
-        proved=$(sed -n 's/^mostListed = \([0-9]*\)$/\1/p' crates/listing/proofs/Room.antt) && [ -n "$proved" ] &&
+    grep -q '^pub room : .* ≤ most_listed$' crates/listing/proofs/Room.antt &&
+        proved=$(sed -n 's/^most_listed = \([0-9]*\)$/\1/p' crates/listing/proofs/Room.antt) && [ -n "$proved" ] &&
         grep "^pub const MOST_LISTED: usize = $proved;$" crates/listing/src/lib.rt &&
         [ "$(grep -c "\[.*; MOST_LISTED\]" crates/list/src/main.rt)" -eq 2 ]
 }

@@ -2,7 +2,8 @@
 # the edit for each of these was refused because that very function could no longer be proved. And the demands: docs/DEMANDS.md lists their theorems, which
 # are there, and for every part of their statements wrong statements, each of which was refused because a law that it names could no longer be proved.
 
-sources() { find crates -path '*/src/*' -name '*.rt'; }
+# What C calls is the libraries' again (below), so these crates are left out.
+sources() { find crates/*/src -name '*.rt' ! -path 'crates/*_c/*'; }
 
 # public_functions: crate::function for each.
 public_functions() {
@@ -21,22 +22,45 @@ no_public_requires() { ! public_clauses requires | grep .; }
 
 every_public_ensures() { public_clauses ensures | diff - <(public_functions | sort -u); }
 
+# exported CRATE: the signature and the clauses of each of its functions that C calls.
+exported() { awk '/^pub extern "C" fn / { on = 1 } on { print } /^\{$/ { on = 0 }' "crates/$1/src/lib.rt"; }
+
+# own_code CRATE LIBRARY: the functions of the crate whose code isn't just the call of the library's function of that name, with what they were given.
+own_code() {
+    awk -v library="$2" '
+        /^pub extern "C" fn / { on = 1; name = $0; sub(/^pub extern "C" fn /, "", name); sub(/\(.*/, "", name); given = "" }
+        on && !/^ *ensures / { left = $0; sub(/^pub extern "C" fn [a-z_]+\(/, "", left)
+            while (match(left, /[a-z_]+: /)) { given = given (given == "" ? "" : ", ") substr(left, RSTART, RLENGTH - 2); left = substr(left, RSTART + RLENGTH) } }
+        /^\{$/ { on = 0; code = ""; inside = 1; next }
+        /^\}$/ { gsub(/ +/, " ", code); gsub(/\( /, "(", code); gsub(/,? \)/, ")", code); if (inside && code != " " library "::" name "(" given ")") print name; inside = 0 }
+        inside { code = code " " $0 }' "crates/$1/src/lib.rt"
+}
+
+# A crate is a library or one for C, and not both: what C calls is the library's function, with the same clauses.
+c_calls_the_libraries() {
+    local library bad=0
+    for library in branmuslin lanes frames; do
+        [ -n "$(exported "$library")" ] && diff <(exported "$library") <(exported "${library}_c") && ! own_code "${library}_c" "$library" | grep . || bad=1
+    done
+    return "$bad"
+}
+
 # arms: crate::function for each arm of `named` and `function`, over which demand 1 is stated. An arm counts only if it has its signature, its contract and
 # its code from one module, and that is the module of the function that the arm is named after; any other is printed as it is, so that two swapped arms,
 # or one that is there twice, can't hide a function that is left out. Equal results are equal values or, of a part of a slice, the same place and octets: an
 # arm could else call any two alike. A line that goes on is joined to the one before.
 arms() {
     sed -E -e ':more' -e '$!N; s/\n +/ /; t more' -e 'P; D' crates/entries/specs/Functions.antt | awk '
-        BEGIN { alike = "alike = λ κs r q. (ptr r ≡ ptr q) × (now r ≡ now q) }" }
+        BEGIN { alike = "alike = λ κs r q. (r.ref_ptr ≡ q.ref_ptr) × (r.now ≡ q.now) }" }
         /^use .* as [^ ]+$/ {
             module = $2
             if ($NF in from) print "brought in twice: " $NF
-            if (sub(/^Rattle·/, "", module) && sub(/\.proofs\./, "::", module)) { sub(/::.*\./, "::", module); from[$NF] = module } else from[$NF] = "no proof"
+            if (sub(/^Rattle\./, "", module) && sub(/\.proofs\./, "::", module)) { sub(/::.*\./, "::", module); from[$NF] = module } else from[$NF] = "no proof"
         }
-        /^(named|function) / && $0 != "function (the-entry n) = named n" {
+        /^(named|function) / && $0 != "function (the_entry n) = named n" {
             alias = $0; sub(/\.ended.*/, "", alias); sub(/.* /, "", alias)
             function_of = (alias in from) ? from[alias] : "no module"
-            name = function_of; sub(/.*::/, "", name); gsub(/_/, "-", name)
+            name = function_of; sub(/.*::/, "", name)
             arm = ($1 == "named" ? "named name." : "function ") name " = "
             valued = arm "valued " alias ".ended (λ M. " alias ".clauses) " alias ".Symbol.routine"
             part = arm "record { ended = " alias ".ended; clauses = λ M. " alias ".clauses; routine = " alias ".Symbol.routine; " alike
@@ -66,8 +90,8 @@ every_theorem_is_there() {
         grep -qxF "pub $theorem" "crates/$file" || { echo "$file does not have: pub $theorem"; bad=1; }
         grep -qxF "pub mod ${module%.antt}" "crates/${file%%/*}/proofs/Lib.antt" || { echo "proofs/Lib.antt does not declare $file"; bad=1; }
     done < <(theorems)
-    for needed in 'demand1 : Demand1' 'demand2 : Demand2' 'demand3 : Demand3' 'runs-are-the-codes : RunsAreTheCodes' 'whose-fault : WhoseFault' \
-        'which-octet : WhichOctet' 'whole-frames : WholeFrames'; do
+    for needed in 'demand1 : Demand1' 'demand2 : Demand2' 'demand3 : Demand3' 'runs_are_the_codes : RunsAreTheCodes' 'whose_fault : WhoseFault' \
+        'which_octet : WhichOctet' 'whole_frames : WholeFrames'; do
         theorems | grep -E "^[^ ]+ $needed( |\$)" || { echo "docs/DEMANDS.md does not list $needed"; bad=1; }
     done
     return "$bad"
@@ -81,7 +105,7 @@ believed() {
         { lines++ }
         /^--/ { name = "" ; next }
         /^((unfoldable|abbrev) )*pub / { name = $0; sub(/^((unfoldable|abbrev) )*pub (record |data )?/, "", name); sub(/ .*/, "", name); order[++n] = name }
-        /^((unfoldable|abbrev) )?[A-Za-z-]+ :/ || /^(infix|module)/ { name = "" }
+        /^((unfoldable|abbrev) )?[A-Za-z0-9_'"'"']+ :/ || /^(infix|module)/ { name = "" }
         name != "" { own[name]++ }
         END { printf "%s %d", file, lines; for (i = 1; i <= n; i++) printf "%s %s %d", (i > 1 ? "," : ""), order[i], own[order[i]]; print "" }' "crates/$1"
 }
@@ -135,28 +159,39 @@ every_edit_is_listed() {
         <({ listed_answers | sed 's/::[^ ]*//' && stated_edits | awk '{ sub(/\/.*/, "", $3); print $3, $2 }' | sort -u; } | sort)
 }
 
-# Signs in a log that only the form of a proof broke. (That a name 'is not in scope here' is a hint on how to read what the checker shows.)
-form='has no `Need-|is not in scope($|[^ ]| [^h])|binders, but its type|has no field|does not cover this function'
+# refused_for CRATE EDIT: the place of what rt ci names as the first that could no longer be proved with that edit, and what is said of it. There is none where the
+# edit only took away a name, or where the prover met a limit of its own.
+refused_for() { sed -nE "s|^rt: must-fail $1/$2\.edit: refused, as it must be: (note: )?(\./)?||p" "$work/rt-ci"; }
 
-# The prover said of that very function that it is not proved; and not that a name is unknown, that the proof is for code of another shape, or that it
-# doesn't know such code. This alone does not show that the edited code is wrong: a proof may also fail where right code was written in another way.
-# So an edit keeps the code's form (below): what it changes is a constant, a variable or an argument, and the same form with the right one is proved.
-stands_at_a_fact() {
-    local log=target/must-fail/${1%%::*}/$2/.log
-    grep -E "^fn $1: (not proved|no proof)" "$log" && ! grep -E "$form" "$log"
+# function_at FILE LINE: the function whose code has that line, or whose attributes do.
+function_at() {
+    awk -v line="$2" '
+        /^ *(pub(\([a-z]+\))? )?(extern "C" )?fn / { name = $0; sub(/^.*fn /, "", name); sub(/[^a-z0-9_].*/, "", name); if (wanted) { print name; exit } }
+        FNR == line { if (/^#/) wanted = 1; else { print name; exit } }' "$1"
 }
 
-# stands_at_a_law EDIT FILE LAW: the checker looked at that very law in that file and refused it. Where it says that another law 'was not admitted', it has not
-# looked at this one. The edit is one of a statement or a definition, since an edit of a proof is refused at its law too, whatever the statement; and what it
-# makes is a statement: the checker has nothing to say in specs/.
+# The first that is not proved is that very function: its own code, or what its own proof files say. This alone does not show that the edited code is wrong: a proof
+# may also fail where right code was written in another way. So an edit keeps the code's form (below): what it changes is a constant, a variable or an argument, and
+# the same form with the right one is proved.
+stands_at_a_fact() {
+    local crate=${1%%::*} place file line
+    place=$(refused_for "$crate" "$2")
+    printf 'refused: %s\n' "$place"
+    file=${place%%:*} line=${place#*:}
+    case $file in
+    src/*) [ "$(function_at "crates/$crate/$file" "${line%%:*}")" = "${1##*::}" ] ;;
+    proofs/*/*.antt) file=${file%/*} && [ "${file##*/}" = "${1##*::}" ] ;;
+    *) false ;;
+    esac
+}
+
+# stands_at_a_law EDIT FILE LAW: the first that is not proved is that very law in that file. The edit is one of a statement or a definition, since an edit of a proof
+# is refused at its law too, whatever the statement.
 stands_at_a_law() {
-    local crate=${2%%/*} log refused
-    log=target/must-fail/$crate/$1/.log
-    refused=$(grep ': error: ' "$log" | grep -vE ': error: `[^`]*`: `[^`]*` was not admitted ')
-    printf 'refused:\n%s\n' "$refused"
-    grep '^file: specs/' "crates/$crate/must-fail/$1.edit" \
-        && grep -qE "/must-fail/$crate/$1/${2#*/}:[0-9]+:[0-9]+: error: \`$3\`: " <<<"$refused" \
-        && ! grep -E "$form|/must-fail/$crate/$1/specs/[^ ]*:[0-9]+:[0-9]+: (error|\`)" "$log"
+    local crate=${2%%/*} place
+    place=$(refused_for "$crate" "$1")
+    printf 'refused: %s\n' "$place"
+    grep '^file: specs/' "crates/$crate/must-fail/$1.edit" && [[ $place =~ ^${2#*/}:[0-9]+:[0-9]+:\ error:\ \`$3\`:\  ]] && [[ $place != *'was not admitted'* ]]
 }
 
 # operators WORD EDIT: those in the lines of an edit of code that begin with WORD, in their order; text in quotes has none.
@@ -176,6 +211,7 @@ every_edit_keeps_the_operators() {
 
 check 'no public function has a requires' no_public_requires
 check 'every public function has an ensures' every_public_ensures
+check 'what C calls is the libraries, with the same clauses' c_calls_the_libraries
 check 'every public function is in demand 1' every_function_is_in_demand_1
 check 'docs/PROMISES.md has two wrong answers for every public function' every_function_has_two_wrong_answers
 check 'every entry of demand 1 has its code' every_entry_has_its_code

@@ -50,9 +50,9 @@ defined() { sed -n "s/^$1 = \([0-9]*\)\$/\1/p" "$2" | grep .; }
 # The law that chunks are the run's text speaks of a pool and an output of these lengths, and one octet more than the longest file shows a longer one.
 rooms_are_as_defined() {
     local blocks octets output longest room
-    grep -q '^poolOctets = blocks \* blockOctets$' crates/pool/specs/Octets.antt &&
-        blocks=$(defined blocks crates/marks/specs/Blocks.antt) && octets=$(defined blockOctets crates/marks/specs/Blocks.antt) &&
-        output=$(sed -n 's/^runText s = .* (zeros poolOctets) (zeros \([0-9]*\)))$/\1/p' crates/replaying/specs/Run.antt | grep .) &&
+    grep -q '^pool_octets = blocks \* block_octets$' crates/pool/specs/Octets.antt &&
+        blocks=$(defined blocks crates/marks/specs/Blocks.antt) && octets=$(defined block_octets crates/marks/specs/Blocks.antt) &&
+        output=$(sed -n 's/^run_text s = .* (zeros pool_octets) (zeros \([0-9]*\)))$/\1/p' crates/replaying/specs/Run.antt | grep .) &&
         longest=$(defined longest crates/replaying/specs/Run.antt) || return
     for room in $((blocks * octets)) "$output" $((longest + 1)); do
         grep "^    \[0; $room\]$" crates/replay/src/main.rt || return
