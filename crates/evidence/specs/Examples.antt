@@ -348,5 +348,5 @@ pub record Examples : Type 0 where
   pub in_share : NothingAmiss (lane_after_run 0 opened) one_octet [] × (would_hold (lane_after_run 0 opened) one_octet ≤ (lane_after_run 0 opened).settings.share)
   pub above_share : NothingAmiss (lane_after_run 0 opened) two_blocks [] × HasRoom (lanes_after_run opened) 0 two_blocks
   pub used_again : MeetsUsedAgain
-  pub whose_fault_lem : MeetsWhoseFault
-  pub which_octet_lem : MeetsWhichOctet
+  pub whose_fault : MeetsWhoseFault
+  pub which_octet : MeetsWhichOctet
