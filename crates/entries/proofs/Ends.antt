@@ -8,11 +8,12 @@ use mir.Val.{Val}
 use base.Logic.{SProp, ent, ex, sep, emp, emp∗, comm∗, assoc∗, assoc', mono_l, fst∗, snd∗, via}
 use prog.Memory.{Memory}
 use prog.Model.{Model}
-use prog.Routine.{anyName}
+use prog.Routine.{Env}
+use prog.Wired.{Wired}
 use types.Logic.{Logic, sem}
 use contract.Adequate.{Satisfies, sat_weaken, sat_fact, sat_⇛, sat_ex∗, call_returns}
 use contract.Monad.{fact}
-use contract.Running.{Running, tables}
+use contract.Running.{Running, tables, strict, within}
 use denote.Laws.{Is, shows}
 use denote.RattleType.{owns}
 use denote.Shadow.{shadow, shows_shadow}
@@ -25,9 +26,13 @@ use Rattle.entries.specs.Contract.{Function, Result, OfTypes, Fact, Promises, Ho
 use Rattle.entries.proofs.Honours.{Honours}
 
 module _ (f : Function) (P : Fact f) (met : Honours f) (promised : Promises f P)
-    (M : Type 1) (𝓤 : Ura M) (𝓛 : Logic 𝓤) (𝓜 : Model 𝓤 𝓛.H) (𝓡 : Running 𝓤 𝓛.H 𝓜) (x : Bound 𝓛 f.ended.signature)
-    (σ : Memory) (F : SProp 𝓤) (s : HoldsInputs f 𝓛 𝓜 x σ F) where
+    (M : Type 1) (𝓤 : Ura M) (𝓛 : Logic 𝓤) (𝓜 : Model 𝓤 𝓛.H) (𝓡 : Running 𝓤 𝓛.H 𝓜) (γ : Env) (wired : Wired γ f.code)
+    (x : Bound 𝓛 f.ended.signature) (σ : Memory) (F : SProp 𝓤) (s : HoldsInputs f 𝓛 𝓜 x σ F) where
   open 𝓛 use {H}
+
+  -- the machine where every call returns, and names mean what γ says
+  abbrev 𝓡γ : Running 𝓤 𝓛.H 𝓜
+  𝓡γ = within 𝓤 𝓛.H 𝓜 (strict 𝓤 𝓛.H 𝓜 𝓡) γ
 
   abbrev S : Signature
   S = f.ended.signature
@@ -58,7 +63,7 @@ module _ (f : Function) (P : Fact f) (met : Honours f) (promised : Promises f P)
   after c g v = H.⇛ (ex 𝓤 (left_by c g v))
 
   abbrev Met : ClausesAt 𝓤 f.ended x.0 → Type 1
-  Met c = (g : c.ghost) → ent 𝓤 (sep 𝓤 On (c.requires g)) (𝓡.run f.routine (passed 𝓛 S x) (after c g))
+  Met c = (g : c.ghost) → ent 𝓤 (sep 𝓤 On (c.requires g)) (𝓡γ.run (γ f.name) (passed 𝓛 S x) (after c g))
 
   alone : (Q : SProp 𝓤) → ent 𝓤 Q (sep 𝓤 Q (emp 𝓤))
   alone Q = via 𝓤 (sep 𝓤 (emp 𝓤) Q) (emp∗ 𝓤 Q) (comm∗ 𝓤 (emp 𝓤) Q)
@@ -68,7 +73,7 @@ module _ (f : Function) (P : Fact f) (met : Honours f) (promised : Promises f P)
     plain = plainly 𝓤 f.ended x.0 (P x.0 x.3 h)
 
     runs : Met plain
-    runs = subst Met (promised x.0 x.3 h M 𝓤 𝓛 𝓜.mem 𝓡.run) (λ g. met M 𝓤 𝓛 𝓜 𝓡 (x, g))
+    runs = subst Met (promised x.0 x.3 h M 𝓤 𝓛 𝓜.mem 𝓡γ.returns) (λ g. met M 𝓤 𝓛 𝓜 𝓡γ wired (x, g))
 
     -- the result, and last values of which P holds, with that fact beside them
     abbrev Said : Result f x.0 → Lasts f.ended x.0 x.3 → Type 0
@@ -105,10 +110,10 @@ module _ (f : Function) (P : Fact f) (met : Honours f) (promised : Promises f P)
           ∥∥₁_elim (fact_in (sep 𝓤 B F) σ' (Said r w) (snd∗ 𝓤 (L w) (fact 𝓤 (Said r w))) t) ∥∥₁_prop
           (λ p. ∥∥₁_map (fact_in F σ' (Is (type_at S.result x.0) r (v ∷ [])) result_is (sat_weaken 𝓤 H 𝓜 σ' (snd∗ 𝓤 (LP w) (sep 𝓤 B F)) t)) (λ i. (i, p)))
 
-    returns : ∥ ReturnsFrom f 𝓛 𝓜 x P σ F ∥₁
+    returns : ∥ ReturnsFrom f 𝓛 𝓜 x γ P σ F ∥₁
     returns =
         ∥∥₁_elim
-        (call_returns 𝓤 H 𝓜 (tables 𝓤 H 𝓜 𝓡 (λ _. f.routine)) anyName (passed 𝓛 S x) σ (after plain tt) F
+        (call_returns 𝓤 H 𝓜 (tables 𝓤 H 𝓜 𝓡γ γ) ((λ s none. none), tt) f.name (passed 𝓛 S x) σ (after plain tt) F
         (sat_weaken 𝓤 H 𝓜 σ (mono_l 𝓤 F (via 𝓤 (sep 𝓤 On (emp 𝓤)) (alone On) (runs tt))) s))
         ∥∥₁_prop
         (λ (n, v, σ', done, t). ∥∥₁_elim (sat_ex∗ 𝓤 H 𝓜 σ' (left_by plain tt v) F (sat_⇛ 𝓤 H 𝓜 σ' (ex 𝓤 (left_by plain tt v)) F t)) ∥∥₁_prop
@@ -116,5 +121,5 @@ module _ (f : Function) (P : Fact f) (met : Honours f) (promised : Promises f P)
         (λ (w, y). ∥∥₁_map (facts v r w σ' y) (λ (i, p). (n, v, σ', done, (h, r, w, i, p, sat_weaken 𝓤 H 𝓜 σ' (kept v r w) y))))))
 
 pub ends : (f : Function) (P : Fact f) → Honours f → Promises f P → Ends f P
-ends f P met promised M 𝓤 𝓛 𝓜 𝓡 x σ F s =
-    ∥∥₁_elim (typed f P met promised M 𝓤 𝓛 𝓜 𝓡 x σ F s) ∥∥₁_prop (λ h. returns f P met promised M 𝓤 𝓛 𝓜 𝓡 x σ F s h)
+ends f P met promised M 𝓤 𝓛 𝓜 𝓡 γ wired x σ F s =
+    ∥∥₁_elim (typed f P met promised M 𝓤 𝓛 𝓜 𝓡 γ wired x σ F s) ∥∥₁_prop (λ h. returns f P met promised M 𝓤 𝓛 𝓜 𝓡 γ wired x σ F s h)

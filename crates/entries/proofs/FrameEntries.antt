@@ -1,5 +1,5 @@
 -- A frame meets demand 1: its order gives the number of the definition, and a refusal leaves state, buffer and output (frames: `Answers`).
-use mathlib.Core.Path.{◌≡◌, refl, sym, ◌∙◌}
+use mathlib.Core.Path.{◌≡◌, refl, ◌∙◌}
 use lib.ListN.{length}
 use Rattle.frames.specs.declared.Framed.{Framed}
 use Rattle.frames.specs.Frames.{frame_refusal}

@@ -1,6 +1,7 @@
 -- Every public function's code meets its contract: the crates' own theorems, under one statement.
 use seplogic.Ra.Ura.{Ura}
 use prog.Model.{Model}
+use prog.Wired.{Wired}
 use types.Logic.{Logic}
 use contract.Running.{Running}
 use denote.Triple.Clauses.{closing}
@@ -86,11 +87,11 @@ use Rattle.entries.specs.Exported.{Name}
 use Rattle.entries.specs.Functions as public
 use Rattle.entries.specs.Functions.{Public, the_entry, function}
 
--- its code meets the contract
+-- where names mean its code, that meets the contract
 abbrev pub Honours : Function → Type 2
 Honours f =
-    (M : Type 1) (𝓤 : Ura M) (𝓛 : Logic 𝓤) (𝓜 : Model 𝓤 𝓛.H) (𝓡 : Running 𝓤 𝓛.H 𝓜)
-    → Meets 𝓛 f.ended.signature (𝓡.run f.routine) (closing 𝓛 f.ended (f.clauses M 𝓤 𝓛 𝓜.mem 𝓡.run))
+    (M : Type 1) (𝓤 : Ura M) (𝓛 : Logic 𝓤) (𝓜 : Model 𝓤 𝓛.H) (𝓡 : Running 𝓤 𝓛.H 𝓜) → Wired 𝓡.env f.code
+    → Meets 𝓛 f.ended.signature (𝓡.run (𝓡.env f.name)) (closing 𝓛 f.ended (f.clauses M 𝓤 𝓛 𝓜.mem 𝓡.returns))
 
 of_entry : (n : Name) → Honours (function (the_entry n))
 of_entry name.read_packet M = ReadPacket.met
@@ -136,7 +137,7 @@ honours public.one_if M = OneIf.met
 honours public.smaller M = SmallerOf.met
 honours public.larger M = LargerOf.met
 honours public.number_of M = NumberOf.met
-honours public.place-of M = PlaceOf.met
+honours public.place_of M = PlaceOf.met
 honours public.header_of M = HeaderOf.met
 honours public.size_of M = SizeOf.met
 honours public.sizes_in M = SizesIn.met

@@ -1,6 +1,7 @@
 -- Every public function may give one answer only: its contract is a fact of equations, each of which fixes a part of what it gives back.
 use mathlib.Core.Path.{◌≡◌, refl, sym, ◌∙◌}
-use prog.Routine.{Routine}
+use prog.Routine.{Callee}
+use prog.Wired.{Code}
 use contract.Lifetimes.{Lfts}
 use denote.Triple.Entry.{Args, Res}
 use denote.Triple.Clauses.{Ended, Lasts, at_exit}
@@ -30,10 +31,11 @@ fixed : {f : Function} {Permits : Fact f} → Promises f Permits → OneAnswer f
 fixed {Permits = Permits} promises one = record { Permits = Permits; promises = promises; one_answer = one }
 
 -- the result is one value, and nothing is changed
-by_value : {T : Ended} {clauses : Contract T} {routine : Routine} {value : (κs : Lfts T.signature.lifetimes) → Args T.signature κs → Res T.signature κs}
-    → Promises (valued T clauses routine) (λ κs a h r s. r ≡ value κs a)
+by_value : {T : Ended} {clauses : Contract T} {name : Callee} {code : Code}
+    {value : (κs : Lfts T.signature.lifetimes) → Args T.signature κs → Res T.signature κs}
+    → Promises (valued T clauses name code) (λ κs a h r s. r ≡ value κs a)
     → ((κs : Lfts T.signature.lifetimes) (a : Args T.signature κs) (v w : Lasts T κs a) → v ≡ w)
-    → Fixed (valued T clauses routine)
+    → Fixed (valued T clauses name code)
 by_value promises still = fixed promises (λ κs a h r q v w e f. (equals e f, still κs a v w))
 
 -- ---- the entries: two permitted answers are equal (`one_permitted`), and so is what they are a view of

@@ -7,7 +7,8 @@ use base.Logic.{SProp, sep}
 use prog.Machine.{done}
 use prog.Memory.{Memory}
 use prog.Model.{Model}
-use prog.Routine.{Routine}
+use prog.Routine.{Routine, Callee, Env, step}
+use prog.Wired.{Code, Wired}
 use types.Logic.{Logic, sem}
 use contract.Adequate.{Satisfies}
 use contract.Lifetimes.{Lfts}
@@ -27,16 +28,17 @@ use denote.Triple.Spec.{Back}
 abbrev pub Contract : Ended → Type 2
 Contract T = (M : Type 1) (𝓤 : Ura M) → (𝓛 : Logic 𝓤) → (Memory → SProp 𝓤) → (Routine → Fun 𝓤) → Clauses 𝓤 T
 
--- its signature, its contract, its code; and when two results are the same to a caller
+-- its signature, its contract, the name by which it is called, its code with that of all it calls; and when two results are the same to a caller
 pub record Function : Type 3 where
   pub ended : Ended
   pub clauses : Contract ended
-  pub routine : Routine
+  pub name : Callee
+  pub code : Code
   pub alike : (κs : Lfts ended.signature.lifetimes) → Res ended.signature κs → Res ended.signature κs → Type 0
 
 -- one that gives back a value: the results are equal
-abbrev pub valued : (T : Ended) → Contract T → Routine → Function
-valued T clauses routine = record { ended = T; clauses = clauses; routine = routine; alike = λ κs r q. r ≡ q }
+abbrev pub valued : (T : Ended) → Contract T → Callee → Code → Function
+valued T clauses name code = record { ended = T; clauses = clauses; name = name; code = code; alike = λ κs r q. r ≡ q }
 
 -- the contract that has no `requires`, and whose `ensures` is a plain fact of the result and of what the references show at the end
 module _ {M : Type 1} (𝓤 : Ura M) (T : Ended) (κs : Lfts T.signature.lifetimes) where
@@ -80,19 +82,19 @@ module _ (f : Function) where
     abbrev pub HoldsResult : Memory → SProp 𝓤 → Val → Result x.0 → Lasts f.ended x.0 x.3 → Type 1
     HoldsResult σ F v r w = Satisfies 𝓤 H 𝓜 σ (sep 𝓤 (sep 𝓤 (Back 𝓛 f.ended.signature x v r) (sem 𝓛 (lasts f.ended x.0 x.3 w))) F)
 
-    -- the machine's run of its code from memory σ is done with some fuel n, and the memory σ' that it leaves holds just such a result and such last values as P
-    -- speaks of
-    abbrev pub ReturnsFrom : Fact → Memory → SProp 𝓤 → Type 1
-    ReturnsFrom P σ F =
-        (n : ℕ) × (v : Val) × (σ' : Memory) × (f.routine.step n (passed 𝓛 f.ended.signature x) σ ≡ done (v, σ'))
+    -- the machine's run of it from memory σ, where names mean what γ says, is done with some fuel n, and the memory σ' that it leaves holds just such a result and
+    -- such last values as P speaks of
+    abbrev pub ReturnsFrom : Env → Fact → Memory → SProp 𝓤 → Type 1
+    ReturnsFrom γ P σ F =
+        (n : ℕ) × (v : Val) × (σ' : Memory) × (step (γ f.name) n (passed 𝓛 f.ended.signature x) σ ≡ done (v, σ'))
         × ((h : OfTypes x.0 x.3) × (r : Result x.0) × (w : Lasts f.ended x.0 x.3)
         × Is (type_at f.ended.signature.result x.0) r (v ∷ []) × P x.0 x.3 h r (at_exit f.ended x.0 x.3 w) × HoldsResult σ' F v r w)
 
-  -- it ends so from every memory in which the inputs lie, whatever they are; and what else was there is still there
+  -- wherever the machine has its code it ends so from every memory in which the inputs lie, whatever they are; and what else was there is still there
   abbrev pub Ends : Fact → Type 2
   Ends P =
-      (M : Type 1) (𝓤 : Ura M) (𝓛 : Logic 𝓤) (𝓜 : Model 𝓤 𝓛.H) (𝓡 : Running 𝓤 𝓛.H 𝓜) (x : Bound 𝓛 f.ended.signature) (σ : Memory) (F : SProp 𝓤)
-      → HoldsInputs 𝓛 𝓜 x σ F → ∥ ReturnsFrom 𝓛 𝓜 x P σ F ∥₁
+      (M : Type 1) (𝓤 : Ura M) (𝓛 : Logic 𝓤) (𝓜 : Model 𝓤 𝓛.H) (𝓡 : Running 𝓤 𝓛.H 𝓜) (γ : Env) → Wired γ f.code
+      → (x : Bound 𝓛 f.ended.signature) (σ : Memory) (F : SProp 𝓤) → HoldsInputs 𝓛 𝓜 x σ F → ∥ ReturnsFrom 𝓛 𝓜 x γ P σ F ∥₁
 
   -- two permitted answers are equal: the results, and what is left behind each reference by which it may change something
   abbrev pub OneAnswer : Fact → Type 0

@@ -1,80 +1,155 @@
--- Every public function of the code, by its name: its signature, its contract and its code, as the toolchain has them.
+-- Every public function of the code, by its name: its signature, its contract, the name that calls it and its code, as the toolchain has them.
 use Rattle.std.specs.Prelude.{◌≡◌}
-use Rattle.reading.proofs.read_packet as ReadPacket
-use Rattle.reading.proofs.data_of as DataOf
-use Rattle.walk.proofs.look_at as LookAt
-use Rattle.walk.proofs.walk as WalkAll
-use Rattle.writing.proofs.write_space as WriteSpace
-use Rattle.writing.proofs.write_encapsulation as WriteEncapsulation
-use Rattle.record.proofs.read_record as ReadRecord
-use Rattle.record.proofs.read_record_file as ReadRecordFile
-use Rattle.record.proofs.write_record as WriteRecord
-use Rattle.state.proofs.fresh_start as FreshStart
-use Rattle.state.proofs.is_sound as IsSound
-use Rattle.intake.proofs.open_lane as OpenLane
-use Rattle.intake.proofs.take_packet as TakePacket
-use Rattle.intake.proofs.close_lane as CloseLane
-use Rattle.listing.proofs.list as ListAll
-use Rattle.listing.proofs.list_recording as ListRecording
-use Rattle.branmuslin.proofs.branmuslin_read_packet as BranmuslinReadPacket
-use Rattle.branmuslin.proofs.branmuslin_write_space as BranmuslinWriteSpace
-use Rattle.branmuslin.proofs.branmuslin_write_encapsulation as BranmuslinWriteEncapsulation
-use Rattle.branmuslin.proofs.branmuslin_read_record as BranmuslinReadRecord
-use Rattle.branmuslin.proofs.branmuslin_read_record_file as BranmuslinReadRecordFile
-use Rattle.branmuslin.proofs.branmuslin_write_record as BranmuslinWriteRecord
-use Rattle.lanes.proofs.branmuslin_fresh_start as BranmuslinFreshStart
-use Rattle.lanes.proofs.branmuslin_is_sound as BranmuslinIsSound
-use Rattle.lanes.proofs.branmuslin_open_lane as BranmuslinOpenLane
-use Rattle.lanes.proofs.branmuslin_take_packet as BranmuslinTakePacket
-use Rattle.lanes.proofs.branmuslin_close_lane as BranmuslinCloseLane
-use Rattle.frames.proofs.branmuslin_fresh_frames as BranmuslinFreshFrames
-use Rattle.frames.proofs.branmuslin_take_frame as BranmuslinTakeFrame
-use Rattle.octets.proofs.octet_at as OctetAt
-use Rattle.octets.proofs.be16_at as be16At
-use Rattle.octets.proofs.be32_at as be32At
-use Rattle.putting.proofs.put_octets as PutOctets
-use Rattle.putting.proofs.put_octet as PutOctet
-use Rattle.putting.proofs.put_be16 as PutBe16
-use Rattle.putting.proofs.put_be32 as PutBe32
-use Rattle.numbers.proofs.one_if as OneIf
-use Rattle.numbers.proofs.smaller as SmallerOf
-use Rattle.numbers.proofs.larger as LargerOf
-use Rattle.packet.proofs.number_of as NumberOf
-use Rattle.packet.proofs.place_of as PlaceOf
-use Rattle.packet.proofs.header_of as HeaderOf
-use Rattle.packet.proofs.size_of as SizeOf
-use Rattle.reading.proofs.sizes_in as SizesIn
-use Rattle.pieces.proofs.judge_joined as JudgeJoined
-use Rattle.pieces.proofs.read_on as ReadOn
-use Rattle.record.proofs.is_possible as IsPossible
-use Rattle.record.proofs.front_record as FrontRecord
-use Rattle.marks.proofs.blocks_for as BlocksFor
-use Rattle.marks.proofs.find_from as FindFrom
-use Rattle.marks.proofs.grant_blocks as GrantBlocks
-use Rattle.marks.proofs.free_blocks as FreeBlocks
-use Rattle.marks.proofs.marks_match as MarksMatch
-use Rattle.pool.proofs.store_octets as StoreOctets
-use Rattle.pool.proofs.gather_octets as GatherOctets
-use Rattle.lane.proofs.need_of as NeedOf
-use Rattle.lane.proofs.is_illegal as IsIllegal
-use Rattle.lane.proofs.is_fine as IsFine
-use Rattle.grouping.proofs.plan_packet as PlanPacket
-use Rattle.state.proofs.is_within as IsWithin
-use Rattle.state.proofs.is_unsound as IsUnsound
-use Rattle.text.proofs.put as PutText
-use Rattle.text.proofs.put_decimal as PutDecimal
-use Rattle.text.proofs.put_numbers as PutNumbers
-use Rattle.listing.proofs.octets_of as OctetsOf
-use Rattle.listing.proofs.written as WrittenPart
-use Rattle.adler.proofs.adler32 as AdlerOf
-use Rattle.telling.proofs.is_ready as IsReady
-use Rattle.telling.proofs.put_line as PutLine
-use Rattle.telling.proofs.put_bad as PutBad
-use Rattle.telling.proofs.put_last as PutLast
-use Rattle.runfile.proofs.begin as BeginRun
-use Rattle.runfile.proofs.call_in as CallIn
-use Rattle.replaying.proofs.replay_some as ReplaySome
-use Rattle.deframing.proofs.tell_next as TellNext
+use Rattle.reading.specs.contracts.read_packet as ReadPacket
+use Rattle.reading.proofs.read_packet.Symbol as ReadPacketCode
+use Rattle.reading.specs.contracts.data_of as DataOf
+use Rattle.reading.proofs.data_of.Symbol as DataOfCode
+use Rattle.walk.specs.contracts.look_at as LookAt
+use Rattle.walk.proofs.look_at.Symbol as LookAtCode
+use Rattle.walk.specs.contracts.walk as WalkAll
+use Rattle.walk.proofs.walk.Symbol as WalkAllCode
+use Rattle.writing.specs.contracts.write_space as WriteSpace
+use Rattle.writing.proofs.write_space.Symbol as WriteSpaceCode
+use Rattle.writing.specs.contracts.write_encapsulation as WriteEncapsulation
+use Rattle.writing.proofs.write_encapsulation.Symbol as WriteEncapsulationCode
+use Rattle.record.specs.contracts.read_record as ReadRecord
+use Rattle.record.proofs.read_record.Symbol as ReadRecordCode
+use Rattle.record.specs.contracts.read_record_file as ReadRecordFile
+use Rattle.record.proofs.read_record_file.Symbol as ReadRecordFileCode
+use Rattle.record.specs.contracts.write_record as WriteRecord
+use Rattle.record.proofs.write_record.Symbol as WriteRecordCode
+use Rattle.state.specs.contracts.fresh_start as FreshStart
+use Rattle.state.proofs.fresh_start.Symbol as FreshStartCode
+use Rattle.state.specs.contracts.is_sound as IsSound
+use Rattle.state.proofs.is_sound.Symbol as IsSoundCode
+use Rattle.intake.specs.contracts.open_lane as OpenLane
+use Rattle.intake.proofs.open_lane.Symbol as OpenLaneCode
+use Rattle.intake.specs.contracts.take_packet as TakePacket
+use Rattle.intake.proofs.take_packet.Symbol as TakePacketCode
+use Rattle.intake.specs.contracts.close_lane as CloseLane
+use Rattle.intake.proofs.close_lane.Symbol as CloseLaneCode
+use Rattle.listing.specs.contracts.list as ListAll
+use Rattle.listing.proofs.list.Symbol as ListAllCode
+use Rattle.listing.specs.contracts.list_recording as ListRecording
+use Rattle.listing.proofs.list_recording.Symbol as ListRecordingCode
+use Rattle.branmuslin.specs.contracts.branmuslin_read_packet as BranmuslinReadPacket
+use Rattle.branmuslin.proofs.branmuslin_read_packet.Symbol as BranmuslinReadPacketCode
+use Rattle.branmuslin.specs.contracts.branmuslin_write_space as BranmuslinWriteSpace
+use Rattle.branmuslin.proofs.branmuslin_write_space.Symbol as BranmuslinWriteSpaceCode
+use Rattle.branmuslin.specs.contracts.branmuslin_write_encapsulation as BranmuslinWriteEncapsulation
+use Rattle.branmuslin.proofs.branmuslin_write_encapsulation.Symbol as BranmuslinWriteEncapsulationCode
+use Rattle.branmuslin.specs.contracts.branmuslin_read_record as BranmuslinReadRecord
+use Rattle.branmuslin.proofs.branmuslin_read_record.Symbol as BranmuslinReadRecordCode
+use Rattle.branmuslin.specs.contracts.branmuslin_read_record_file as BranmuslinReadRecordFile
+use Rattle.branmuslin.proofs.branmuslin_read_record_file.Symbol as BranmuslinReadRecordFileCode
+use Rattle.branmuslin.specs.contracts.branmuslin_write_record as BranmuslinWriteRecord
+use Rattle.branmuslin.proofs.branmuslin_write_record.Symbol as BranmuslinWriteRecordCode
+use Rattle.lanes.specs.contracts.branmuslin_fresh_start as BranmuslinFreshStart
+use Rattle.lanes.proofs.branmuslin_fresh_start.Symbol as BranmuslinFreshStartCode
+use Rattle.lanes.specs.contracts.branmuslin_is_sound as BranmuslinIsSound
+use Rattle.lanes.proofs.branmuslin_is_sound.Symbol as BranmuslinIsSoundCode
+use Rattle.lanes.specs.contracts.branmuslin_open_lane as BranmuslinOpenLane
+use Rattle.lanes.proofs.branmuslin_open_lane.Symbol as BranmuslinOpenLaneCode
+use Rattle.lanes.specs.contracts.branmuslin_take_packet as BranmuslinTakePacket
+use Rattle.lanes.proofs.branmuslin_take_packet.Symbol as BranmuslinTakePacketCode
+use Rattle.lanes.specs.contracts.branmuslin_close_lane as BranmuslinCloseLane
+use Rattle.lanes.proofs.branmuslin_close_lane.Symbol as BranmuslinCloseLaneCode
+use Rattle.frames.specs.contracts.branmuslin_fresh_frames as BranmuslinFreshFrames
+use Rattle.frames.proofs.branmuslin_fresh_frames.Symbol as BranmuslinFreshFramesCode
+use Rattle.frames.specs.contracts.branmuslin_take_frame as BranmuslinTakeFrame
+use Rattle.frames.proofs.branmuslin_take_frame.Symbol as BranmuslinTakeFrameCode
+use Rattle.octets.specs.contracts.octet_at as OctetAt
+use Rattle.octets.proofs.octet_at.Symbol as OctetAtCode
+use Rattle.octets.specs.contracts.be16_at as be16At
+use Rattle.octets.proofs.be16_at.Symbol as be16AtCode
+use Rattle.octets.specs.contracts.be32_at as be32At
+use Rattle.octets.proofs.be32_at.Symbol as be32AtCode
+use Rattle.putting.specs.contracts.put_octets as PutOctets
+use Rattle.putting.proofs.put_octets.Symbol as PutOctetsCode
+use Rattle.putting.specs.contracts.put_octet as PutOctet
+use Rattle.putting.proofs.put_octet.Symbol as PutOctetCode
+use Rattle.putting.specs.contracts.put_be16 as PutBe16
+use Rattle.putting.proofs.put_be16.Symbol as PutBe16Code
+use Rattle.putting.specs.contracts.put_be32 as PutBe32
+use Rattle.putting.proofs.put_be32.Symbol as PutBe32Code
+use Rattle.numbers.specs.contracts.one_if as OneIf
+use Rattle.numbers.proofs.one_if.Symbol as OneIfCode
+use Rattle.numbers.specs.contracts.smaller as SmallerOf
+use Rattle.numbers.proofs.smaller.Symbol as SmallerOfCode
+use Rattle.numbers.specs.contracts.larger as LargerOf
+use Rattle.numbers.proofs.larger.Symbol as LargerOfCode
+use Rattle.packet.specs.contracts.number_of as NumberOf
+use Rattle.packet.proofs.number_of.Symbol as NumberOfCode
+use Rattle.packet.specs.contracts.place_of as PlaceOf
+use Rattle.packet.proofs.place_of.Symbol as PlaceOfCode
+use Rattle.packet.specs.contracts.header_of as HeaderOf
+use Rattle.packet.proofs.header_of.Symbol as HeaderOfCode
+use Rattle.packet.specs.contracts.size_of as SizeOf
+use Rattle.packet.proofs.size_of.Symbol as SizeOfCode
+use Rattle.reading.specs.contracts.sizes_in as SizesIn
+use Rattle.reading.proofs.sizes_in.Symbol as SizesInCode
+use Rattle.pieces.specs.contracts.judge_joined as JudgeJoined
+use Rattle.pieces.proofs.judge_joined.Symbol as JudgeJoinedCode
+use Rattle.pieces.specs.contracts.read_on as ReadOn
+use Rattle.pieces.proofs.read_on.Symbol as ReadOnCode
+use Rattle.record.specs.contracts.is_possible as IsPossible
+use Rattle.record.proofs.is_possible.Symbol as IsPossibleCode
+use Rattle.record.specs.contracts.front_record as FrontRecord
+use Rattle.record.proofs.front_record.Symbol as FrontRecordCode
+use Rattle.marks.specs.contracts.blocks_for as BlocksFor
+use Rattle.marks.proofs.blocks_for.Symbol as BlocksForCode
+use Rattle.marks.specs.contracts.find_from as FindFrom
+use Rattle.marks.proofs.find_from.Symbol as FindFromCode
+use Rattle.marks.specs.contracts.grant_blocks as GrantBlocks
+use Rattle.marks.proofs.grant_blocks.Symbol as GrantBlocksCode
+use Rattle.marks.specs.contracts.free_blocks as FreeBlocks
+use Rattle.marks.proofs.free_blocks.Symbol as FreeBlocksCode
+use Rattle.marks.specs.contracts.marks_match as MarksMatch
+use Rattle.marks.proofs.marks_match.Symbol as MarksMatchCode
+use Rattle.pool.specs.contracts.store_octets as StoreOctets
+use Rattle.pool.proofs.store_octets.Symbol as StoreOctetsCode
+use Rattle.pool.specs.contracts.gather_octets as GatherOctets
+use Rattle.pool.proofs.gather_octets.Symbol as GatherOctetsCode
+use Rattle.lane.specs.contracts.need_of as NeedOf
+use Rattle.lane.proofs.need_of.Symbol as NeedOfCode
+use Rattle.lane.specs.contracts.is_illegal as IsIllegal
+use Rattle.lane.proofs.is_illegal.Symbol as IsIllegalCode
+use Rattle.lane.specs.contracts.is_fine as IsFine
+use Rattle.lane.proofs.is_fine.Symbol as IsFineCode
+use Rattle.grouping.specs.contracts.plan_packet as PlanPacket
+use Rattle.grouping.proofs.plan_packet.Symbol as PlanPacketCode
+use Rattle.state.specs.contracts.is_within as IsWithin
+use Rattle.state.proofs.is_within.Symbol as IsWithinCode
+use Rattle.state.specs.contracts.is_unsound as IsUnsound
+use Rattle.state.proofs.is_unsound.Symbol as IsUnsoundCode
+use Rattle.text.specs.contracts.put as PutText
+use Rattle.text.proofs.put.Symbol as PutTextCode
+use Rattle.text.specs.contracts.put_decimal as PutDecimal
+use Rattle.text.proofs.put_decimal.Symbol as PutDecimalCode
+use Rattle.text.specs.contracts.put_numbers as PutNumbers
+use Rattle.text.proofs.put_numbers.Symbol as PutNumbersCode
+use Rattle.listing.specs.contracts.octets_of as OctetsOf
+use Rattle.listing.proofs.octets_of.Symbol as OctetsOfCode
+use Rattle.listing.specs.contracts.written as WrittenPart
+use Rattle.listing.proofs.written.Symbol as WrittenPartCode
+use Rattle.adler.specs.contracts.adler32 as AdlerOf
+use Rattle.adler.proofs.adler32.Symbol as AdlerOfCode
+use Rattle.telling.specs.contracts.is_ready as IsReady
+use Rattle.telling.proofs.is_ready.Symbol as IsReadyCode
+use Rattle.telling.specs.contracts.put_line as PutLine
+use Rattle.telling.proofs.put_line.Symbol as PutLineCode
+use Rattle.telling.specs.contracts.put_bad as PutBad
+use Rattle.telling.proofs.put_bad.Symbol as PutBadCode
+use Rattle.telling.specs.contracts.put_last as PutLast
+use Rattle.telling.proofs.put_last.Symbol as PutLastCode
+use Rattle.runfile.specs.contracts.begin as BeginRun
+use Rattle.runfile.proofs.begin.Symbol as BeginRunCode
+use Rattle.runfile.specs.contracts.call_in as CallIn
+use Rattle.runfile.proofs.call_in.Symbol as CallInCode
+use Rattle.replaying.specs.contracts.replay_some as ReplaySome
+use Rattle.replaying.proofs.replay_some.Symbol as ReplaySomeCode
+use Rattle.deframing.specs.contracts.tell_next as TellNext
+use Rattle.deframing.proofs.tell_next.Symbol as TellNextCode
 use Rattle.entries.specs.Contract.{Function, valued}
 use Rattle.entries.specs.Exported as name
 use Rattle.entries.specs.Exported.{Name}
@@ -96,83 +171,87 @@ pub data Public : Type 0 where
 
 -- `data_of` and `written` give back a part of a slice that they were lent: where it lies, and its octets
 abbrev named : Name → Function
-named name.read_packet = valued ReadPacket.ended (λ M. ReadPacket.clauses) ReadPacket.Symbol.routine
+named name.read_packet = valued ReadPacket.ended (λ M 𝓤. ReadPacket.clauses) ReadPacketCode.name ReadPacketCode.code
 named name.data_of =
-    record { ended = DataOf.ended; clauses = λ M. DataOf.clauses; routine = DataOf.Symbol.routine; alike = λ κs r q. (r.ref_ptr ≡ q.ref_ptr) × (r.now ≡ q.now) }
-named name.look_at = valued LookAt.ended (λ M. LookAt.clauses) LookAt.Symbol.routine
-named name.walk = valued WalkAll.ended (λ M. WalkAll.clauses) WalkAll.Symbol.routine
-named name.write_space = valued WriteSpace.ended (λ M. WriteSpace.clauses) WriteSpace.Symbol.routine
-named name.write_encapsulation = valued WriteEncapsulation.ended (λ M. WriteEncapsulation.clauses) WriteEncapsulation.Symbol.routine
-named name.read_record = valued ReadRecord.ended (λ M. ReadRecord.clauses) ReadRecord.Symbol.routine
-named name.read_record_file = valued ReadRecordFile.ended (λ M. ReadRecordFile.clauses) ReadRecordFile.Symbol.routine
-named name.write_record = valued WriteRecord.ended (λ M. WriteRecord.clauses) WriteRecord.Symbol.routine
-named name.fresh_start = valued FreshStart.ended (λ M. FreshStart.clauses) FreshStart.Symbol.routine
-named name.is_sound = valued IsSound.ended (λ M. IsSound.clauses) IsSound.Symbol.routine
-named name.open_lane = valued OpenLane.ended (λ M. OpenLane.clauses) OpenLane.Symbol.routine
-named name.take_packet = valued TakePacket.ended (λ M. TakePacket.clauses) TakePacket.Symbol.routine
-named name.close_lane = valued CloseLane.ended (λ M. CloseLane.clauses) CloseLane.Symbol.routine
-named name.list = valued ListAll.ended (λ M. ListAll.clauses) ListAll.Symbol.routine
-named name.list_recording = valued ListRecording.ended (λ M. ListRecording.clauses) ListRecording.Symbol.routine
-named name.branmuslin_read_packet = valued BranmuslinReadPacket.ended (λ M. BranmuslinReadPacket.clauses) BranmuslinReadPacket.Symbol.routine
-named name.branmuslin_write_space = valued BranmuslinWriteSpace.ended (λ M. BranmuslinWriteSpace.clauses) BranmuslinWriteSpace.Symbol.routine
-named name.branmuslin_write_encapsulation = valued BranmuslinWriteEncapsulation.ended (λ M. BranmuslinWriteEncapsulation.clauses) BranmuslinWriteEncapsulation.Symbol.routine
-named name.branmuslin_read_record = valued BranmuslinReadRecord.ended (λ M. BranmuslinReadRecord.clauses) BranmuslinReadRecord.Symbol.routine
-named name.branmuslin_read_record_file = valued BranmuslinReadRecordFile.ended (λ M. BranmuslinReadRecordFile.clauses) BranmuslinReadRecordFile.Symbol.routine
-named name.branmuslin_write_record = valued BranmuslinWriteRecord.ended (λ M. BranmuslinWriteRecord.clauses) BranmuslinWriteRecord.Symbol.routine
-named name.branmuslin_fresh_start = valued BranmuslinFreshStart.ended (λ M. BranmuslinFreshStart.clauses) BranmuslinFreshStart.Symbol.routine
-named name.branmuslin_is_sound = valued BranmuslinIsSound.ended (λ M. BranmuslinIsSound.clauses) BranmuslinIsSound.Symbol.routine
-named name.branmuslin_open_lane = valued BranmuslinOpenLane.ended (λ M. BranmuslinOpenLane.clauses) BranmuslinOpenLane.Symbol.routine
-named name.branmuslin_take_packet = valued BranmuslinTakePacket.ended (λ M. BranmuslinTakePacket.clauses) BranmuslinTakePacket.Symbol.routine
-named name.branmuslin_close_lane = valued BranmuslinCloseLane.ended (λ M. BranmuslinCloseLane.clauses) BranmuslinCloseLane.Symbol.routine
-named name.branmuslin_fresh_frames = valued BranmuslinFreshFrames.ended (λ M. BranmuslinFreshFrames.clauses) BranmuslinFreshFrames.Symbol.routine
-named name.branmuslin_take_frame = valued BranmuslinTakeFrame.ended (λ M. BranmuslinTakeFrame.clauses) BranmuslinTakeFrame.Symbol.routine
+    record { ended = DataOf.ended; clauses = λ M 𝓤. DataOf.clauses; name = DataOfCode.name; code = DataOfCode.code; alike = λ κs r q. (r.ref_ptr ≡ q.ref_ptr) × (r.now ≡ q.now) }
+named name.look_at = valued LookAt.ended (λ M 𝓤. LookAt.clauses) LookAtCode.name LookAtCode.code
+named name.walk = valued WalkAll.ended (λ M 𝓤. WalkAll.clauses) WalkAllCode.name WalkAllCode.code
+named name.write_space = valued WriteSpace.ended (λ M 𝓤. WriteSpace.clauses) WriteSpaceCode.name WriteSpaceCode.code
+named name.write_encapsulation = valued WriteEncapsulation.ended (λ M 𝓤. WriteEncapsulation.clauses) WriteEncapsulationCode.name WriteEncapsulationCode.code
+named name.read_record = valued ReadRecord.ended (λ M 𝓤. ReadRecord.clauses) ReadRecordCode.name ReadRecordCode.code
+named name.read_record_file = valued ReadRecordFile.ended (λ M 𝓤. ReadRecordFile.clauses) ReadRecordFileCode.name ReadRecordFileCode.code
+named name.write_record = valued WriteRecord.ended (λ M 𝓤. WriteRecord.clauses) WriteRecordCode.name WriteRecordCode.code
+named name.fresh_start = valued FreshStart.ended (λ M 𝓤. FreshStart.clauses) FreshStartCode.name FreshStartCode.code
+named name.is_sound = valued IsSound.ended (λ M 𝓤. IsSound.clauses) IsSoundCode.name IsSoundCode.code
+named name.open_lane = valued OpenLane.ended (λ M 𝓤. OpenLane.clauses) OpenLaneCode.name OpenLaneCode.code
+named name.take_packet = valued TakePacket.ended (λ M 𝓤. TakePacket.clauses) TakePacketCode.name TakePacketCode.code
+named name.close_lane = valued CloseLane.ended (λ M 𝓤. CloseLane.clauses) CloseLaneCode.name CloseLaneCode.code
+named name.list = valued ListAll.ended (λ M 𝓤. ListAll.clauses) ListAllCode.name ListAllCode.code
+named name.list_recording = valued ListRecording.ended (λ M 𝓤. ListRecording.clauses) ListRecordingCode.name ListRecordingCode.code
+named name.branmuslin_read_packet = valued BranmuslinReadPacket.ended (λ M 𝓤. BranmuslinReadPacket.clauses) BranmuslinReadPacketCode.name BranmuslinReadPacketCode.code
+named name.branmuslin_write_space = valued BranmuslinWriteSpace.ended (λ M 𝓤. BranmuslinWriteSpace.clauses) BranmuslinWriteSpaceCode.name BranmuslinWriteSpaceCode.code
+named name.branmuslin_write_encapsulation =
+    valued BranmuslinWriteEncapsulation.ended (λ M 𝓤. BranmuslinWriteEncapsulation.clauses) BranmuslinWriteEncapsulationCode.name BranmuslinWriteEncapsulationCode.code
+named name.branmuslin_read_record = valued BranmuslinReadRecord.ended (λ M 𝓤. BranmuslinReadRecord.clauses) BranmuslinReadRecordCode.name BranmuslinReadRecordCode.code
+named name.branmuslin_read_record_file =
+    valued BranmuslinReadRecordFile.ended (λ M 𝓤. BranmuslinReadRecordFile.clauses) BranmuslinReadRecordFileCode.name BranmuslinReadRecordFileCode.code
+named name.branmuslin_write_record =
+    valued BranmuslinWriteRecord.ended (λ M 𝓤. BranmuslinWriteRecord.clauses) BranmuslinWriteRecordCode.name BranmuslinWriteRecordCode.code
+named name.branmuslin_fresh_start = valued BranmuslinFreshStart.ended (λ M 𝓤. BranmuslinFreshStart.clauses) BranmuslinFreshStartCode.name BranmuslinFreshStartCode.code
+named name.branmuslin_is_sound = valued BranmuslinIsSound.ended (λ M 𝓤. BranmuslinIsSound.clauses) BranmuslinIsSoundCode.name BranmuslinIsSoundCode.code
+named name.branmuslin_open_lane = valued BranmuslinOpenLane.ended (λ M 𝓤. BranmuslinOpenLane.clauses) BranmuslinOpenLaneCode.name BranmuslinOpenLaneCode.code
+named name.branmuslin_take_packet = valued BranmuslinTakePacket.ended (λ M 𝓤. BranmuslinTakePacket.clauses) BranmuslinTakePacketCode.name BranmuslinTakePacketCode.code
+named name.branmuslin_close_lane = valued BranmuslinCloseLane.ended (λ M 𝓤. BranmuslinCloseLane.clauses) BranmuslinCloseLaneCode.name BranmuslinCloseLaneCode.code
+named name.branmuslin_fresh_frames =
+    valued BranmuslinFreshFrames.ended (λ M 𝓤. BranmuslinFreshFrames.clauses) BranmuslinFreshFramesCode.name BranmuslinFreshFramesCode.code
+named name.branmuslin_take_frame = valued BranmuslinTakeFrame.ended (λ M 𝓤. BranmuslinTakeFrame.clauses) BranmuslinTakeFrameCode.name BranmuslinTakeFrameCode.code
 
 abbrev pub function : Public → Function
 function (the_entry n) = named n
-function octet_at = valued OctetAt.ended (λ M. OctetAt.clauses) OctetAt.Symbol.routine
-function be16_at = valued be16At.ended (λ M. be16At.clauses) be16At.Symbol.routine
-function be32_at = valued be32At.ended (λ M. be32At.clauses) be32At.Symbol.routine
-function put_octets = valued PutOctets.ended (λ M. PutOctets.clauses) PutOctets.Symbol.routine
-function put_octet = valued PutOctet.ended (λ M. PutOctet.clauses) PutOctet.Symbol.routine
-function put_be16 = valued PutBe16.ended (λ M. PutBe16.clauses) PutBe16.Symbol.routine
-function put_be32 = valued PutBe32.ended (λ M. PutBe32.clauses) PutBe32.Symbol.routine
-function one_if = valued OneIf.ended (λ M. OneIf.clauses) OneIf.Symbol.routine
-function smaller = valued SmallerOf.ended (λ M. SmallerOf.clauses) SmallerOf.Symbol.routine
-function larger = valued LargerOf.ended (λ M. LargerOf.clauses) LargerOf.Symbol.routine
-function number_of = valued NumberOf.ended (λ M. NumberOf.clauses) NumberOf.Symbol.routine
-function place_of = valued PlaceOf.ended (λ M. PlaceOf.clauses) PlaceOf.Symbol.routine
-function header_of = valued HeaderOf.ended (λ M. HeaderOf.clauses) HeaderOf.Symbol.routine
-function size_of = valued SizeOf.ended (λ M. SizeOf.clauses) SizeOf.Symbol.routine
-function sizes_in = valued SizesIn.ended (λ M. SizesIn.clauses) SizesIn.Symbol.routine
-function judge_joined = valued JudgeJoined.ended (λ M. JudgeJoined.clauses) JudgeJoined.Symbol.routine
-function read_on = valued ReadOn.ended (λ M. ReadOn.clauses) ReadOn.Symbol.routine
-function is_possible = valued IsPossible.ended (λ M. IsPossible.clauses) IsPossible.Symbol.routine
-function front_record = valued FrontRecord.ended (λ M. FrontRecord.clauses) FrontRecord.Symbol.routine
-function blocks_for = valued BlocksFor.ended (λ M. BlocksFor.clauses) BlocksFor.Symbol.routine
-function find_from = valued FindFrom.ended (λ M. FindFrom.clauses) FindFrom.Symbol.routine
-function grant_blocks = valued GrantBlocks.ended (λ M. GrantBlocks.clauses) GrantBlocks.Symbol.routine
-function free_blocks = valued FreeBlocks.ended (λ M. FreeBlocks.clauses) FreeBlocks.Symbol.routine
-function marks_match = valued MarksMatch.ended (λ M. MarksMatch.clauses) MarksMatch.Symbol.routine
-function store_octets = valued StoreOctets.ended (λ M. StoreOctets.clauses) StoreOctets.Symbol.routine
-function gather_octets = valued GatherOctets.ended (λ M. GatherOctets.clauses) GatherOctets.Symbol.routine
-function need_of = valued NeedOf.ended (λ M. NeedOf.clauses) NeedOf.Symbol.routine
-function is_illegal = valued IsIllegal.ended (λ M. IsIllegal.clauses) IsIllegal.Symbol.routine
-function is_fine = valued IsFine.ended (λ M. IsFine.clauses) IsFine.Symbol.routine
-function plan_packet = valued PlanPacket.ended (λ M. PlanPacket.clauses) PlanPacket.Symbol.routine
-function is_within = valued IsWithin.ended (λ M. IsWithin.clauses) IsWithin.Symbol.routine
-function is_unsound = valued IsUnsound.ended (λ M. IsUnsound.clauses) IsUnsound.Symbol.routine
-function put = valued PutText.ended (λ M. PutText.clauses) PutText.Symbol.routine
-function put_decimal = valued PutDecimal.ended (λ M. PutDecimal.clauses) PutDecimal.Symbol.routine
-function put_numbers = valued PutNumbers.ended (λ M. PutNumbers.clauses) PutNumbers.Symbol.routine
-function octets_of = valued OctetsOf.ended (λ M. OctetsOf.clauses) OctetsOf.Symbol.routine
+function octet_at = valued OctetAt.ended (λ M 𝓤. OctetAt.clauses) OctetAtCode.name OctetAtCode.code
+function be16_at = valued be16At.ended (λ M 𝓤. be16At.clauses) be16AtCode.name be16AtCode.code
+function be32_at = valued be32At.ended (λ M 𝓤. be32At.clauses) be32AtCode.name be32AtCode.code
+function put_octets = valued PutOctets.ended (λ M 𝓤. PutOctets.clauses) PutOctetsCode.name PutOctetsCode.code
+function put_octet = valued PutOctet.ended (λ M 𝓤. PutOctet.clauses) PutOctetCode.name PutOctetCode.code
+function put_be16 = valued PutBe16.ended (λ M 𝓤. PutBe16.clauses) PutBe16Code.name PutBe16Code.code
+function put_be32 = valued PutBe32.ended (λ M 𝓤. PutBe32.clauses) PutBe32Code.name PutBe32Code.code
+function one_if = valued OneIf.ended (λ M 𝓤. OneIf.clauses) OneIfCode.name OneIfCode.code
+function smaller = valued SmallerOf.ended (λ M 𝓤. SmallerOf.clauses) SmallerOfCode.name SmallerOfCode.code
+function larger = valued LargerOf.ended (λ M 𝓤. LargerOf.clauses) LargerOfCode.name LargerOfCode.code
+function number_of = valued NumberOf.ended (λ M 𝓤. NumberOf.clauses) NumberOfCode.name NumberOfCode.code
+function place_of = valued PlaceOf.ended (λ M 𝓤. PlaceOf.clauses) PlaceOfCode.name PlaceOfCode.code
+function header_of = valued HeaderOf.ended (λ M 𝓤. HeaderOf.clauses) HeaderOfCode.name HeaderOfCode.code
+function size_of = valued SizeOf.ended (λ M 𝓤. SizeOf.clauses) SizeOfCode.name SizeOfCode.code
+function sizes_in = valued SizesIn.ended (λ M 𝓤. SizesIn.clauses) SizesInCode.name SizesInCode.code
+function judge_joined = valued JudgeJoined.ended (λ M 𝓤. JudgeJoined.clauses) JudgeJoinedCode.name JudgeJoinedCode.code
+function read_on = valued ReadOn.ended (λ M 𝓤. ReadOn.clauses) ReadOnCode.name ReadOnCode.code
+function is_possible = valued IsPossible.ended (λ M 𝓤. IsPossible.clauses) IsPossibleCode.name IsPossibleCode.code
+function front_record = valued FrontRecord.ended (λ M 𝓤. FrontRecord.clauses) FrontRecordCode.name FrontRecordCode.code
+function blocks_for = valued BlocksFor.ended (λ M 𝓤. BlocksFor.clauses) BlocksForCode.name BlocksForCode.code
+function find_from = valued FindFrom.ended (λ M 𝓤. FindFrom.clauses) FindFromCode.name FindFromCode.code
+function grant_blocks = valued GrantBlocks.ended (λ M 𝓤. GrantBlocks.clauses) GrantBlocksCode.name GrantBlocksCode.code
+function free_blocks = valued FreeBlocks.ended (λ M 𝓤. FreeBlocks.clauses) FreeBlocksCode.name FreeBlocksCode.code
+function marks_match = valued MarksMatch.ended (λ M 𝓤. MarksMatch.clauses) MarksMatchCode.name MarksMatchCode.code
+function store_octets = valued StoreOctets.ended (λ M 𝓤. StoreOctets.clauses) StoreOctetsCode.name StoreOctetsCode.code
+function gather_octets = valued GatherOctets.ended (λ M 𝓤. GatherOctets.clauses) GatherOctetsCode.name GatherOctetsCode.code
+function need_of = valued NeedOf.ended (λ M 𝓤. NeedOf.clauses) NeedOfCode.name NeedOfCode.code
+function is_illegal = valued IsIllegal.ended (λ M 𝓤. IsIllegal.clauses) IsIllegalCode.name IsIllegalCode.code
+function is_fine = valued IsFine.ended (λ M 𝓤. IsFine.clauses) IsFineCode.name IsFineCode.code
+function plan_packet = valued PlanPacket.ended (λ M 𝓤. PlanPacket.clauses) PlanPacketCode.name PlanPacketCode.code
+function is_within = valued IsWithin.ended (λ M 𝓤. IsWithin.clauses) IsWithinCode.name IsWithinCode.code
+function is_unsound = valued IsUnsound.ended (λ M 𝓤. IsUnsound.clauses) IsUnsoundCode.name IsUnsoundCode.code
+function put = valued PutText.ended (λ M 𝓤. PutText.clauses) PutTextCode.name PutTextCode.code
+function put_decimal = valued PutDecimal.ended (λ M 𝓤. PutDecimal.clauses) PutDecimalCode.name PutDecimalCode.code
+function put_numbers = valued PutNumbers.ended (λ M 𝓤. PutNumbers.clauses) PutNumbersCode.name PutNumbersCode.code
+function octets_of = valued OctetsOf.ended (λ M 𝓤. OctetsOf.clauses) OctetsOfCode.name OctetsOfCode.code
 function written =
-    record { ended = WrittenPart.ended; clauses = λ M. WrittenPart.clauses; routine = WrittenPart.Symbol.routine; alike = λ κs r q. (r.ref_ptr ≡ q.ref_ptr) × (r.now ≡ q.now) }
-function is_ready = valued IsReady.ended (λ M. IsReady.clauses) IsReady.Symbol.routine
-function put_line = valued PutLine.ended (λ M. PutLine.clauses) PutLine.Symbol.routine
-function put_bad = valued PutBad.ended (λ M. PutBad.clauses) PutBad.Symbol.routine
-function put_last = valued PutLast.ended (λ M. PutLast.clauses) PutLast.Symbol.routine
-function adler32 = valued AdlerOf.ended (λ M. AdlerOf.clauses) AdlerOf.Symbol.routine
-function begin = valued BeginRun.ended (λ M. BeginRun.clauses) BeginRun.Symbol.routine
-function call_in = valued CallIn.ended (λ M. CallIn.clauses) CallIn.Symbol.routine
-function replay_some = valued ReplaySome.ended (λ M. ReplaySome.clauses) ReplaySome.Symbol.routine
-function tell_next = valued TellNext.ended (λ M. TellNext.clauses) TellNext.Symbol.routine
+    record { ended = WrittenPart.ended; clauses = λ M 𝓤. WrittenPart.clauses; name = WrittenPartCode.name; code = WrittenPartCode.code; alike = λ κs r q. (r.ref_ptr ≡ q.ref_ptr) × (r.now ≡ q.now) }
+function is_ready = valued IsReady.ended (λ M 𝓤. IsReady.clauses) IsReadyCode.name IsReadyCode.code
+function put_line = valued PutLine.ended (λ M 𝓤. PutLine.clauses) PutLineCode.name PutLineCode.code
+function put_bad = valued PutBad.ended (λ M 𝓤. PutBad.clauses) PutBadCode.name PutBadCode.code
+function put_last = valued PutLast.ended (λ M 𝓤. PutLast.clauses) PutLastCode.name PutLastCode.code
+function adler32 = valued AdlerOf.ended (λ M 𝓤. AdlerOf.clauses) AdlerOfCode.name AdlerOfCode.code
+function begin = valued BeginRun.ended (λ M 𝓤. BeginRun.clauses) BeginRunCode.name BeginRunCode.code
+function call_in = valued CallIn.ended (λ M 𝓤. CallIn.clauses) CallInCode.name CallInCode.code
+function replay_some = valued ReplaySome.ended (λ M 𝓤. ReplaySome.clauses) ReplaySomeCode.name ReplaySomeCode.code
+function tell_next = valued TellNext.ended (λ M 𝓤. TellNext.clauses) TellNextCode.name TellNextCode.code

@@ -1,7 +1,5 @@
 -- How what each entry is given, answers and leaves stands in the code: so that its promise is a fact of the code's contract.
-use Rattle.std.proofs.Common.{sym, ◌∙◌}
 use Rattle.std.specs.Prelude.{List}
-use Rattle.std.proofs.lemmas.List.{length-map}
 use mir.Val.{Val}
 use denote.Laws.{Is}
 use denote.Triple.Clauses.{AtExit}
@@ -22,7 +20,7 @@ pub record View (f : Function) (e : Entry) : Type 0 where
 
 -- a state has eight lanes and 64 marks, as the lengths of its arrays say
 pub shaped : (s : State) (vs : List Val) → Is StateType.the_row s vs → Shaped s
-shaped s vs h = (sym (length-map s.lanes _) ∙ h.1.1.0.1.0.1, sym (length-map s.marks _) ∙ h.1.1.1.0.1.0.1)
+shaped s vs h = (h.1.1.0.1.0.1, h.1.1.1.0.1.0.1)
 
 -- the calls of a lane, which are given the same in Rattle and in C
 abbrev view_of_opening : View (function (the_entry name.open_lane)) open_lane_entry
