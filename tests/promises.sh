@@ -45,26 +45,30 @@ c_calls_the_libraries() {
     return "$bad"
 }
 
-# arms: crate::function for each arm of `named` and `function`, over which demand 1 is stated. An arm counts only if it has its signature, its contract and
-# its code from one module, and that is the module of the function that the arm is named after; any other is printed as it is, so that two swapped arms,
-# or one that is there twice, can't hide a function that is left out. Equal results are equal values or, of a part of a slice, the same place and octets: an
-# arm could else call any two alike. A line that goes on is joined to the one before.
+# arms: crate::function for each arm of `named` and `function`, over which demand 1 is stated. An arm counts only if it has its signature and its contract from one
+# function's module, its name and its code from the same function's, and that is the function that the arm is named after; any other is printed as it is, so that two
+# swapped arms, or one that is there twice, can't hide a function that is left out. Equal results are equal values or, of a part of a slice, the same place and octets:
+# an arm could else call any two alike. A line that goes on is joined to the one before.
 arms() {
     sed -E -e ':more' -e '$!N; s/\n +/ /; t more' -e 'P; D' crates/entries/specs/Functions.antt | awk '
         BEGIN { alike = "alike = λ κs r q. (r.ref_ptr ≡ q.ref_ptr) × (r.now ≡ q.now) }" }
         /^use .* as [^ ]+$/ {
             module = $2
             if ($NF in from) print "brought in twice: " $NF
-            if (sub(/^Rattle\./, "", module) && sub(/\.proofs\./, "::", module)) { sub(/::.*\./, "::", module); from[$NF] = module } else from[$NF] = "no proof"
+            is_code = sub(/\.Symbol$/, "", module)
+            if (sub(/^Rattle\./, "", module) && (is_code ? sub(/\.proofs\./, "::", module) : sub(/\.specs\.contracts\./, "::", module))) {
+                sub(/::.*\./, "::", module); from[$NF] = (is_code ? "code of " : "") module
+            } else from[$NF] = "no function"
         }
         /^(named|function) / && $0 != "function (the_entry n) = named n" {
             alias = $0; sub(/\.ended.*/, "", alias); sub(/.* /, "", alias)
+            code = $0; sub(/\.code.*/, "", code); sub(/.* /, "", code)
             function_of = (alias in from) ? from[alias] : "no module"
             name = function_of; sub(/.*::/, "", name)
             arm = ($1 == "named" ? "named name." : "function ") name " = "
-            valued = arm "valued " alias ".ended (λ M. " alias ".clauses) " alias ".Symbol.routine"
-            part = arm "record { ended = " alias ".ended; clauses = λ M. " alias ".clauses; routine = " alias ".Symbol.routine; " alike
-            if ($0 == valued || $0 == part) print function_of; else print "an arm of another form: " $0
+            valued = arm "valued " alias ".ended (λ M 𝓤. " alias ".clauses) " code ".name " code ".code"
+            part = arm "record { ended = " alias ".ended; clauses = λ M 𝓤. " alias ".clauses; name = " code ".name; code = " code ".code; " alike
+            if (from[code] == "code of " function_of && ($0 == valued || $0 == part)) print function_of; else print "an arm of another form: " $0
         }'
 }
 
