@@ -94,8 +94,8 @@ every_theorem_is_there() {
         grep -qxF "pub $theorem" "crates/$file" || { echo "$file does not have: pub $theorem"; bad=1; }
         grep -qxF "pub mod ${module%.antt}" "crates/${file%%/*}/proofs/Lib.antt" || { echo "proofs/Lib.antt does not declare $file"; bad=1; }
     done < <(theorems)
-    for needed in 'demand1 : Demand1' 'demand2 : Demand2' 'demand3 : Demand3' 'runs_are_the_codes : RunsAreTheCodes' 'whose_fault_lem : WhoseFault' \
-        'which_octet_lem : WhichOctet' 'whole_frames : WholeFrames'; do
+    for needed in 'demand1 : Demand1' 'demand2 : Demand2' 'demand3 : Demand3' 'runs_are_the_codes : RunsAreTheCodes' 'whose_fault : WhoseFault' \
+        'which_octet : WhichOctet' 'whole_frames : WholeFrames'; do
         theorems | grep -E "^[^ ]+ $needed( |\$)" || { echo "docs/DEMANDS.md does not list $needed"; bad=1; }
     done
     return "$bad"

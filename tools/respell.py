@@ -17,6 +17,8 @@ INSTEAD = {
     'replies-to': 'reply_to',
     'space-header': 'space_header_cut',
 }
+# Theorems and laws that keep their words, since nothing of the same name is brought in beside them.
+PLAIN = {'reads-file', 'which-octet', 'whose-fault', 'writes-encapsulation', 'writes-record', 'writes-space'}
 # A case of `Public` has its function's name, though elsewhere a lemma has the same.
 HERE = {('crates/entries', 'is-ready'): 'is_ready'}
 # The entries have the names of their functions with this word behind, since the functions' own names stand beside them.
@@ -98,7 +100,7 @@ for p in paths:
         there = (tokens(old[p]) & own) - aliases
         functions = {wanted[x] for x in there if re.search(r"[a-z][A-Z]", x)}
         for x in there:
-            if '-' in x and wanted[x] in functions:
+            if '-' in x and x not in PLAIN and wanted[x] in functions:
                 wanted[x] += '_lem'
 # names of answers follow the code, and are made anew with the proofs
 ANSWER = re.compile(r"^(returns|loop|Inv|invariant|overflow|bounds|step|L)(-|$)")

@@ -87,5 +87,5 @@ passed_on start calls i packet out open' =
       λ k e. has_none d k (step_told x i packet out out (Refused k) e),
     )
 
-pub which_octet_lem : WhichOctet ours
-which_octet_lem = record { each_is_honest = each_is_honest; header_decides = header_decides; passed_on = passed_on }
+pub which_octet : WhichOctet ours
+which_octet = record { each_is_honest = each_is_honest; header_decides = header_decides; passed_on = passed_on }

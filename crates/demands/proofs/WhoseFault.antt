@@ -211,8 +211,8 @@ others_can_close start calls i = let all8 = closed_below start i 8 calls in (all
 never_27_alone : Never27Alone
 never_27_alone start calls i packet out = never_27_beside_closed start (own i calls) i packet out (λ j h d. own_only ours i j d calls (begun start))
 
-pub whose_fault_lem : WhoseFault
-whose_fault_lem = record {
+pub whose_fault : WhoseFault
+whose_fault = record {
   cap_decides = cap_decides;
   no_other_decides = no_other_decides;
   sum_decides = sum_decides;
