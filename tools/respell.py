@@ -18,7 +18,7 @@ INSTEAD = {
     'space-header': 'space_header_cut',
 }
 # Theorems and laws that keep their words, since nothing of the same name is brought in beside them.
-PLAIN = {'reads-file', 'which-octet', 'whose-fault', 'writes-encapsulation', 'writes-record', 'writes-space'}
+PLAIN = {'reads-file', 'reads-record', 'which-octet', 'whose-fault', 'writes-encapsulation', 'writes-record', 'writes-space'}
 # A case of `Public` has its function's name, though elsewhere a lemma has the same.
 HERE = {('crates/entries', 'is-ready'): 'is_ready'}
 # The entries have the names of their functions with this word behind, since the functions' own names stand beside them.

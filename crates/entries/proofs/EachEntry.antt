@@ -106,9 +106,9 @@ write_answer number octets tells fine refused' =
 written_fixes : (a b : Written) → WritingTold.told a ≡ WritingTold.told b → a ≡ b
 written_fixes a b same = WritingAnswers.one_answer a b (WritingTold.told b) same refl
 
-pub writes_space_lem : Asked write_space_entry
+pub writes_space : Asked write_space_entry
 unfolding space_told
-writes_space_lem =
+writes_space =
     demand write_space_entry
     (λ g. write_answer (leading (write_space_entry.tells g)) (space_header + length g.field) (write_space_entry.tells g)
     (SpaceFine.fine_told g.packet_type g.secondary g.apid g.flags g.count (length g.field) (length g.out))
@@ -116,9 +116,9 @@ writes_space_lem =
     (λ g. leads_first (0 ∷ (space_header + length g.field) ∷ []) (write_space_entry.tests g)) written_fixes
     (λ g. output_left (leading (write_space_entry.tells g)) (space_text g) g.out)
 
-pub writes_encapsulation_lem : Asked write_encapsulation_entry
+pub writes_encapsulation : Asked write_encapsulation_entry
 unfolding encap_told
-writes_encapsulation_lem =
+writes_encapsulation =
     demand write_encapsulation_entry
     (λ g. write_answer (leading (write_encapsulation_entry.tells g)) (shortest g.protocol g.user (length g.content) + length g.content) (write_encapsulation_entry.tells g)
     (EncapFine.fine_told g.protocol g.user g.extension (length g.content) (length g.out))
@@ -127,17 +127,17 @@ writes_encapsulation_lem =
     (λ g. output_left (leading (write_encapsulation_entry.tells g)) (encapsulation_text g) g.out)
 
 -- ---- records
-pub reads_record_lem : Asked read_record_entry
+pub reads_record : Asked read_record_entry
 unfolding record_reading
-reads_record_lem =
+reads_record =
     demand read_record_entry
     (λ s. either (not (eqb (length s) record_size)) (λ t. (RecordRead.Refused 26, simp t refl))
     (λ f. either (not (possible_at s)) (λ t. (RecordRead.Refused 25, simp (f, t) refl)) (λ n. (RecordRead.Fields (record_in s), simp (f, n) refl))))
     (λ s. leads_first (0 ∷ recordFields (record_in s)) (record_tests s)) (λ a b same. one_read (told_read b) a b same refl) (λ s refused. refl)
 
-pub writes_record_lem : Asked write_record_entry
+pub writes_record : Asked write_record_entry
 unfolding record_told
-writes_record_lem =
+writes_record =
     demand write_record_entry
     (λ g. either (ltb (length g.out) record_size) (λ t. (RecordWritten.Refused 9, simp t refl))
     (λ f. either (not (possible g.credit)) (λ t. (RecordWritten.Refused 25, simp (f, t) refl)) (λ n. (RecordWritten.Octets record_size, simp (f, n) refl))))
