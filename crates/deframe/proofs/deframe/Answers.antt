@@ -33,10 +33,11 @@ loop-progress-smaller-then-progress-text g c =
 
 pub loop-progress-preserved-then-progress-text : goal.loop-progress-preserved-then-progress-text
 loop-progress-preserved-then-progress-text g c =
-    let l = c.loop-progress in
-    (omega (arith, l.invariant.0, c.tell_next-told.auto.text),
-    rw (ap (λ (x : Told). x.progress) c.tell_next-told.ensures.value)
-    (stays_possible c.args.file.now (length l.text) l.to (standing l.progress l.piece l.out) l.invariant.1 (not-true _ c.loop-progress-test.true) l.invariant.0))
+    let l = c.loop-progress in (
+      omega (arith, l.invariant.0, c.tell_next-told.auto.text),
+      rw (ap (λ (x : Told). x.progress) c.tell_next-told.ensures.value)
+          (stays_possible c.args.file.now (length l.text) l.to (standing l.progress l.piece l.out) l.invariant.1 (not-true _ c.loop-progress-test.true) l.invariant.0),
+    )
 
 pub loop-progress-smaller : goal.loop-progress-smaller
 loop-progress-smaller g c =
@@ -49,7 +50,8 @@ loop-progress-preserved g c =
     let l = c.loop-progress in
     let r = c.tell_next-told in
     let left = length r.new.text - r.result.to in
-    let room = ltb-false left line_room (neither r.result.progress.done (nat_lt left line_room) c.if-progress-text.false).1 in
-    (omega (arith, room, r.ensures.octets_in_bounds.1 (omega (arith, l.invariant.0)), r.auto.text),
-    rw (ap (λ (x : Told). x.progress) r.ensures.value)
-    (stays_possible c.args.file.now (length l.text) l.to (standing l.progress l.piece l.out) l.invariant.1 (not-true _ c.loop-progress-test.true) l.invariant.0))
+    let room = ltb-false left line_room (neither r.result.progress.done (nat_lt left line_room) c.if-progress-text.false).1 in (
+      omega (arith, room, r.ensures.octets_in_bounds.1 (omega (arith, l.invariant.0)), r.auto.text),
+      rw (ap (λ (x : Told). x.progress) r.ensures.value)
+          (stays_possible c.args.file.now (length l.text) l.to (standing l.progress l.piece l.out) l.invariant.1 (not-true _ c.loop-progress-test.true) l.invariant.0),
+    )
