@@ -174,17 +174,34 @@ function_at() {
         FNR == line { if (/^#/) wanted = 1; else { print name; exit } }' "$1"
 }
 
-# The first that is not proved is that very function: its own code, or what its own proof files say. This alone does not show that the edited code is wrong: a proof
-# may also fail where right code was written in another way. So an edit keeps the code's form (below): what it changes is a constant, a variable or an argument, and
-# the same form with the right one is proved.
+# called_by CRATE FUNCTION: the function, and those of its crate that it calls, or that these call.
+called_by() {
+    awk -v wanted="$2" '
+        /^ *(pub(\([a-z]+\))? )?(extern "C" )?fn / { name = $0; sub(/^.*fn /, "", name); sub(/[^a-z0-9_].*/, "", name); functions[name] = 1; next }
+        { left = $0; while (match(left, /[a-z_][a-z0-9_]*\(/)) { calls[name] = calls[name] " " substr(left, RSTART, RLENGTH - 1); left = substr(left, RSTART + RLENGTH) } }
+        END {
+            todo[last = 1] = wanted
+            for (i = 1; i <= last; i++) {
+                if (!(todo[i] in functions) || todo[i] in done) continue
+                print todo[i]; done[todo[i]] = 1
+                n = split(calls[todo[i]], called, " ")
+                for (k = 1; k <= n; k++) todo[++last] = called[k]
+            }
+        }' "crates/$1/src"/*.rt
+}
+
+# The first that is not proved is that very function or one that it calls: their own code, or what their own proof files say; or, of an edit of a definition, a law of
+# the crate, on which their proofs stand. This alone does not show that the edited code is wrong: a proof may also fail where right code was written in another way.
+# So an edit keeps the code's form (below): what it changes is a constant, a variable or an argument, and the same form with the right one is proved.
 stands_at_a_fact() {
     local crate=${1%%::*} place file line
     place=$(refused_for "$crate" "$2")
     printf 'refused: %s\n' "$place"
     file=${place%%:*} line=${place#*:}
     case $file in
-    src/*) [ "$(function_at "crates/$crate/$file" "${line%%:*}")" = "${1##*::}" ] ;;
-    proofs/*/*.antt) file=${file%/*} && [ "${file##*/}" = "${1##*::}" ] ;;
+    src/*) called_by "$crate" "${1##*::}" | grep -xF "$(function_at "crates/$crate/$file" "${line%%:*}")" ;;
+    proofs/*/*.antt) file=${file%/*} && called_by "$crate" "${1##*::}" | grep -xF "${file##*/}" ;;
+    proofs/*.antt) grep '^file: specs/' "crates/$crate/must-fail/$2.edit" ;;
     *) false ;;
     esac
 }
