@@ -1,2 +1,3 @@
 mod Adding
 pub mod Below
+pub mod Linked

@@ -1,2 +1,3 @@
 mod Steps
 pub mod Whole
+pub mod Linked

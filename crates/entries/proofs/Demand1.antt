@@ -1,5 +1,5 @@
--- Demand 1, whole: that each entry is as asked (`Asked`), that its code promises just that (`Promised`) and ends so (`Ends`), and that every function may give one
--- answer only (`OneAnswer`).
+-- Demand 1, whole: that each entry is as asked (`Asked`), that its code promises just that (`Promised`) and ends so (`Ends`), that every function may give one
+-- answer only (`OneAnswer`), and that the machine of every build has its code (`Built`).
 use mathlib.Core.Path.{◌≡◌, sym, ap, ◌∙◌}
 use borrow.Author.Tests.{eq-eqb, ne_eqb}
 use lib.ListN.{drop}
@@ -14,6 +14,7 @@ use Rattle.entries.proofs.Promised.{promised}
 use Rattle.entries.proofs.Honours.{honours}
 use Rattle.entries.proofs.Ends.{ends}
 use Rattle.entries.proofs.OneAnswer.{one_answers}
+use Rattle.entries.proofs.Built.{there}
 
 each_entry : EachEntry
 each_entry n = (as_asked n, promised n, ends (function (the_entry n)) (Permitted n) (honours (the_entry n)) (promised n))
@@ -42,4 +43,4 @@ each_function p =
     }
 
 pub demand1 : Demand1
-demand1 = record { each_entry = each_entry; index_stays = index_stays; place_stays = place_stays; each_function = each_function }
+demand1 = record { each_entry = each_entry; index_stays = index_stays; place_stays = place_stays; each_function = each_function; each_linked = there }

@@ -9,3 +9,4 @@ pub mod OneAnswer
 pub mod Honours
 pub mod Ends
 pub mod Demand1
+pub mod Built

@@ -1,10 +1,13 @@
 -- Demand 1. Each public entry accepts every input, of every length, and ends. It refuses bad input with one of the numbers in the paper, for exactly the cause
 -- written there. A refusal changes no state, no pool and no output octet.
 use Rattle.std.specs.Prelude.{◌≡◌}
+use prog.Linked.{World}
+use prog.Wired.{Wired}
 use Rattle.entries.specs.Entry.{Permits, Asked}
 use Rattle.entries.specs.Exported.{Name, entry, read_packet_c, read_record_file_c}
 use Rattle.entries.specs.Contract.{Promises, Ends, Determined}
 use Rattle.entries.specs.Functions.{Public, the_entry, function}
+use Rattle.entries.specs.Built.{Built, linked}
 use Rattle.entries.specs.Views.{Permitted}
 
 -- ---- each public entry refuses with one of the numbers in the paper, for exactly the cause written there, and refused means unchanged; and its code has just
@@ -24,8 +27,13 @@ PlaceStays = (g : read_packet_c.Given) (a : read_packet_c.Answer) (l : read_pack
 abbrev pub EachFunction : Type 2
 EachFunction = (p : Public) → Determined (function p)
 
+-- ---- the machine of every build of the repository has each function's code: so it ends there as said
+abbrev pub EachLinked : Type 0
+EachLinked = (W : World) → Built W → (p : Public) → Wired (linked W) (function p).code
+
 pub record Demand1 : Type 2 where
   pub each_entry : EachEntry
   pub index_stays : IndexStays
   pub place_stays : PlaceStays
   pub each_function : EachFunction
+  pub each_linked : EachLinked

@@ -5,3 +5,4 @@ pub mod Contract
 pub mod Functions
 pub mod Views
 pub mod Demand1
+pub mod Built

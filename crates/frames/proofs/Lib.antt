@@ -2,3 +2,4 @@ pub mod Parts
 pub mod Good
 pub mod Taken
 pub mod Answers
+pub mod Linked

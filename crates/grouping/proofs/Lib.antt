@@ -2,3 +2,4 @@ pub mod Grouped
 pub mod Faulty
 pub mod Accepted
 pub mod Planned
+pub mod Linked

@@ -4,3 +4,4 @@ pub mod Taken
 pub mod Opened
 pub mod Given
 pub mod Closed
+pub mod Linked

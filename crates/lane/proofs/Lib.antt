@@ -1,3 +1,4 @@
 pub mod Tallied
 pub mod Fine
 pub mod Parts
+pub mod Linked

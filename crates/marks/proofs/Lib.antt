@@ -8,3 +8,4 @@ pub mod Sums
 pub mod Matched
 pub mod Lowest
 pub mod Once
+pub mod Linked

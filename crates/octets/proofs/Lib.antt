@@ -3,3 +3,4 @@ pub mod PastTheEnd
 pub mod Puts
 pub mod Writers
 pub mod Again
+pub mod Linked

@@ -2,3 +2,4 @@ pub mod Listed
 pub mod InBlocks
 pub mod Guards
 pub mod Apart
+pub mod Linked

@@ -1,1 +1,2 @@
 mod Part
+pub mod Linked

@@ -5,3 +5,4 @@ pub mod Answers
 pub mod Alike
 pub mod After
 pub mod Exits
+pub mod Linked

@@ -7,3 +7,4 @@ pub mod InFile
 pub mod Answers
 pub mod RoundTrip
 pub mod Tested
+pub mod Linked

@@ -2,3 +2,4 @@ mod Front
 pub mod Steps
 mod Chunks
 pub mod Whole
+pub mod Linked

@@ -2,3 +2,4 @@ pub mod LastFirst
 pub mod Cut
 pub mod Short
 pub mod Underway
+pub mod Linked

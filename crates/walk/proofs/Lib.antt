@@ -1,3 +1,4 @@
 pub mod Looked
 pub mod Going
 pub mod Rises
+pub mod Linked

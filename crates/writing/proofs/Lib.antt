@@ -9,3 +9,4 @@ pub mod Shortest
 pub mod RoundTrips
 pub mod Exactly
 pub mod Answers
+pub mod Linked

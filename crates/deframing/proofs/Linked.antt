@@ -1,0 +1,34 @@
+-- The crate's code as the table that a program is linked from: wherever it is, and what it calls of other crates is, so is the code of each public function.
+use mathlib.Core.Bool.{true}
+use prog.Linked.{Tree, World, Holds, in_world}
+use prog.LinkedThreads.{HasT}
+use Rattle.deframing.proofs.TheLink as Link
+use Rattle.adler.proofs.adler32.Symbol as adler_adler32
+use Rattle.frames.proofs.branmuslin_take_frame.Symbol as frames_branmuslin_take_frame
+use Rattle.numbers.proofs.one_if.Symbol as numbers_one_if
+use Rattle.octets.proofs.be16_at.Symbol as octets_be16_at
+use Rattle.telling.proofs.is_ready.Symbol as telling_is_ready
+use Rattle.telling.proofs.put_last.Symbol as telling_put_last
+use Rattle.telling.proofs.put_line.Symbol as telling_put_line
+use Rattle.text.proofs.put.Symbol as text_put
+use Rattle.deframing.proofs.tell_next.Symbol as own_tell_next
+
+pub table : Tree
+table = Link.table
+
+-- what it calls of other crates
+abbrev pub Calls : World → Type 0
+Calls W =
+    HasT (in_world W) true adler_adler32.code ×
+    (HasT (in_world W) true frames_branmuslin_take_frame.code ×
+    (HasT (in_world W) true numbers_one_if.code ×
+    (HasT (in_world W) true octets_be16_at.code ×
+    (HasT (in_world W) true telling_is_ready.code ×
+    (HasT (in_world W) true telling_put_last.code ×
+    (HasT (in_world W) true telling_put_line.code ×
+    (HasT (in_world W) true text_put.code ×
+    Unit {0})))))))
+
+pub has_tell_next : (W : World) → Holds W "deframing" table → Calls W → HasT (in_world W) true own_tell_next.code
+unfolding table
+has_tell_next W here calls = Link.linked-deframing::tell_next W here calls
