@@ -21,7 +21,7 @@ no_rt := the library is not built from these sources, and the Rattle toolchain (
 all: $(archive) $(examples)
 
 # The archive has an object for each of three crates, so that each is compiled by itself (docs/DECISIONS.md). It gets the time at which its proving
-# began, so that a file changed meanwhile counts as newer. What rt keeps in a crate's out/ is no source, nor is that folder's coming into the crate's own.
+# began, so that a file changed meanwhile counts as newer. What rt keeps in a crate's out/ is no source, and when out/ comes, the crate's own folder counts as changed: so neither is looked at.
 $(archive): crates.txt $(shell find crates -mindepth 2 -name out -prune -o -print)
 	$(if $(shell command -v rt 2>&1),,$(error $(no_rt)))
 	@mkdir -p $(@D) && touch target/lib/begun

@@ -143,7 +143,9 @@ credit_full_output() {
 }
 
 # copies NAME..: a copy of these in $work/copy, but of what rt keeps in the crates' out/, and a folder bin.
-copies() { rm -rf "$work/copy" && mkdir -p "$work/copy/bin" && tar -c --exclude='crates/*/out' "$@" | tar -x -C "$work/copy"; }
+copies() {
+    rm -rf "$work/copy" && mkdir -p "$work/copy/bin" && tar -cf "$work/copy.tar" --exclude='crates/*/out' "$@" && tar -xf "$work/copy.tar" -C "$work/copy"
+}
 
 # In a copy: with a toolchain that proves nothing one line follows that which says what goes on; with none, or no make, there is one line.
 credit_unbuilt() {

@@ -2,8 +2,8 @@
 # the edit for each of these was refused because that very function could no longer be proved. And the demands: docs/DEMANDS.md lists their theorems, which
 # are there, and for every part of their statements wrong statements, each of which was refused because a law that it names could no longer be proved.
 
-# What C calls is the libraries' again (below), so these crates are left out.
-sources() { find crates/*/src -name '*.rt' ! -path 'crates/*_c/*'; }
+# What C calls is the libraries' again (below), so these three crates are left out.
+sources() { find crates/*/src -name '*.rt' ! -path 'crates/branmuslin_c/*' ! -path 'crates/lanes_c/*' ! -path 'crates/frames_c/*'; }
 
 # public_functions: crate::function for each.
 public_functions() {
@@ -36,11 +36,14 @@ own_code() {
         inside { code = code " " $0 }' "crates/$1/src/lib.rt"
 }
 
-# A crate is a library or one for C, and not both: what C calls is the library's function, with the same clauses.
+# A crate is a library or one for C, and not both: what C calls is the library's function, with the same clauses, and nothing else is in the crate for C: it is one
+# file, and each of its functions is one that C calls.
 c_calls_the_libraries() {
     local library bad=0
     for library in branmuslin lanes frames; do
         [ -n "$(exported "$library")" ] && diff <(exported "$library") <(exported "${library}_c") && ! own_code "${library}_c" "$library" | grep . || bad=1
+        [ "$(echo "crates/${library}_c/src/"*)" = "crates/${library}_c/src/lib.rt" ] &&
+            [ "$(grep -cE '(^|[[:space:]])fn ' "crates/${library}_c/src/lib.rt")" -eq "$(grep -c '^pub extern "C" fn ' "crates/${library}_c/src/lib.rt")" ] || bad=1
     done
     return "$bad"
 }
@@ -174,7 +177,7 @@ function_at() {
         FNR == line { if (/^#/) wanted = 1; else { print name; exit } }' "$1"
 }
 
-# called_by CRATE FUNCTION: the function, and those of its crate that it calls, or that these call.
+# called_by CRATE FUNCTION: the function, those of its crate that it calls, and those that these call, by name.
 called_by() {
     awk -v wanted="$2" '
         /^ *(pub(\([a-z]+\))? )?(extern "C" )?fn / { name = $0; sub(/^.*fn /, "", name); sub(/[^a-z0-9_].*/, "", name); functions[name] = 1; next }
@@ -190,18 +193,37 @@ called_by() {
         }' "crates/$1/src"/*.rt
 }
 
+# laws_of CRATE FUNCTION: the files of laws on which the proofs of the function and of those that it calls stand, straight or by way of other files of laws; and these
+# proofs' own files.
+laws_of() {
+    local name files more
+    mapfile -t files < <(called_by "$1" "$2" | while read -r name; do find "crates/$1/proofs" -path "*/$name/*.antt"; done | sort -u)
+    while [ "${#files[@]}" -gt 0 ]; do
+        mapfile -t more < <({ printf '%s\n' "${files[@]}" && sed -nE "s|^(ghost )?use Rattle\.$1\.proofs\.([A-Z][A-Za-z0-9]*)[. ].*|crates/$1/proofs/\2.antt|p" "${files[@]}"; } | sort -u |
+            while read -r name; do [ ! -e "$name" ] || printf '%s\n' "$name"; done)
+        [ "${#more[@]}" -gt "${#files[@]}" ] || break
+        files=("${more[@]}")
+    done
+    printf '%s\n' "${files[@]}"
+}
+
+# What is said where only the form of a proof broke: a name or an argument that is no longer there, or a proof file that no longer has what the code asks for. That is
+# no answer about a fact, so an edit that is refused so counts for nothing.
+only_form='has no (field|`)|binders, but its type|does not cover this function'
+
 # The first that is not proved is that very function or one that it calls: their own code, or what their own proof files say; or, of an edit of a definition, a law of
-# the crate, on which their proofs stand. This alone does not show that the edited code is wrong: a proof may also fail where right code was written in another way.
+# the crate on which their proofs stand. This alone does not show that the edited code is wrong: a proof may also fail where right code was written in another way.
 # So an edit keeps the code's form (below): what it changes is a constant, a variable or an argument, and the same form with the right one is proved.
 stands_at_a_fact() {
     local crate=${1%%::*} place file line
     place=$(refused_for "$crate" "$2")
     printf 'refused: %s\n' "$place"
+    ! grep -E "$only_form" <<<"$place" || return
     file=${place%%:*} line=${place#*:}
     case $file in
     src/*) called_by "$crate" "${1##*::}" | grep -xF "$(function_at "crates/$crate/$file" "${line%%:*}")" ;;
     proofs/*/*.antt) file=${file%/*} && called_by "$crate" "${1##*::}" | grep -xF "${file##*/}" ;;
-    proofs/*.antt) grep '^file: specs/' "crates/$crate/must-fail/$2.edit" ;;
+    proofs/*.antt) grep '^file: specs/' "crates/$crate/must-fail/$2.edit" && laws_of "$crate" "${1##*::}" | grep -xF "crates/$crate/$file" ;;
     *) false ;;
     esac
 }
@@ -212,6 +234,7 @@ stands_at_a_law() {
     local crate=${2%%/*} place
     place=$(refused_for "$crate" "$1")
     printf 'refused: %s\n' "$place"
+    ! grep -E "$only_form" <<<"$place" || return
     grep '^file: specs/' "crates/$crate/must-fail/$1.edit" && [[ $place =~ ^${2#*/}:[0-9]+:[0-9]+:\ error:\ \`$3\`:\  ]] && [[ $place != *'was not admitted'* ]]
 }
 

@@ -27,6 +27,8 @@ if ! emulate >"$work/log" 2>&1 </dev/null; then
 fi
 echo "note  this machine is $(uname -m): what is for x86-64 runs in emulation, and leaks are not looked for"
 export sanitizers_emulator ASAN_OPTIONS=detect_leaks=0
+# The kit builds for x86-64-v2, more than the emulator's plainest machine has.
+export QEMU_CPU=max
 export CC=$PWD/tests/emulated/cc CXX=x86_64-linux-gnu-g++ CLANG=$PWD/tests/emulated/clang
 # The emulator itself takes some 250 MB; and there the sanitizer's report of a bad access breaks off after its first line.
 little_memory=350000
