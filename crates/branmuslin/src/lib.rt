@@ -1,4 +1,5 @@
-// The C library: the functions that include/branmuslin.h declares, thin over the proved ones. Each returns the number of the refusal, or 0,
+// What the C library has of readers, writers and records, thin over the proved ones: the crate branmuslin_c gives C these functions, which include/branmuslin.h
+// declares. Each returns the number of the refusal, or 0,
 // and where it refuses leaves everything that was lent to it as it was (but for the index that belongs to refusal 25 of a record file, and the
 // place that belongs to 1 to 7 of a packet). A slice is a pointer and a length in C; packet_type, field and out are type, data and output in the
 // header.

@@ -18,7 +18,7 @@ use text::put;
 
 // Where a frame file stands: the octets of whole frames behind it, their number, whether its text is whole, and the state of its frames. It begins with 0, 0, no, and
 // the fresh state.
-#[derive(Drop)]
+#[derive(Clone, Copy)]
 pub struct Progress {
     pub at: usize,
     pub frames: usize,
@@ -27,7 +27,7 @@ pub struct Progress {
 }
 
 // What a step leaves: where the file stands, the index after the text, and the octets of the packets at the front of the output.
-#[derive(Drop)]
+#[derive(Clone, Copy)]
 pub struct Told {
     pub progress: Progress,
     pub to: usize,

@@ -1,5 +1,5 @@
 // Frames: the data fields of a frame recording, one a call, joined to the packets that lie across them. The unfinished piece lives in a lent buffer, and whole packets go to
-// a lent output. It knows the reader, and nothing of lanes. Its two functions are those of the C library, which include/branmuslin.h declares; Rattle calls the same.
+// a lent output. It knows the reader, and nothing of lanes. The crate frames_c gives C its two functions, which include/branmuslin.h declares.
 #![tactic(auto)]
 
 mod plan;

@@ -14,7 +14,7 @@ use packets::{fault_of, other_plan};
 use reading::read_packet;
 
 // What decides, with its octets, whether a packet is at fault: the settings of the lane that it comes to.
-#[derive(Drop)]
+#[derive(Clone, Copy)]
 pub struct Terms {
     pub settings: Settings,
 }
@@ -53,7 +53,7 @@ pub enum Step {
 
 // A step that is settled whatever the other lanes hold; or one that is taken if there is room beside theirs for the lane with a group of so
 // many octets, and else refused.
-#[derive(Drop)]
+#[derive(Clone, Copy)]
 pub enum Plan {
     Sure(Step),
     Ask {

@@ -20,7 +20,7 @@ use state::{State, is_unsound, is_within};
 use taking::{answer_of, carry_out, is_refusal, settled, user_part};
 
 // What a packet is answered: packets missing before it, and whether a group was given up. A unit's octets lie at the front of the output.
-#[derive(Drop)]
+#[derive(Clone, Copy)]
 pub enum Answer {
     // 8 and above
     Refused(u8),
@@ -46,7 +46,7 @@ pub enum Answer {
 }
 
 // What a packet gives.
-#[derive(Drop)]
+#[derive(Clone, Copy)]
 pub struct Answered {
     pub answer: Answer,
     pub state: State,
@@ -54,7 +54,7 @@ pub struct Answered {
 
 // What an opening or a closing gives: the refusal, or 0.
 #[repr(C)]
-#[derive(Drop)]
+#[derive(Clone, Copy)]
 pub struct Changed {
     pub refusal: u8,
     pub state: State,

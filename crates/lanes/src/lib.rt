@@ -1,4 +1,4 @@
-// The lanes of the C library, thin over the proved ones, which include/branmuslin.h declares: the state goes in and comes back by value, and what a packet is
+// What the C library has of the lanes, thin over the proved ones: the crate lanes_c gives C these functions, which include/branmuslin.h declares. The state goes in and comes back by value, and what a packet is
 // answered is told in numbers. They are a crate of their own, so that a program that only reads and writes links nothing of them.
 #![tactic(auto)]
 
@@ -14,7 +14,7 @@ use state::State;
 // What a packet is answered, in numbers. kind: 0 refused, 1 repeat, 2 stray, 3 held, 4 unit; given_up: a group was given up; place: of a refusal
 // 1 to 7, else 0.
 #[repr(C)]
-#[derive(Drop)]
+#[derive(Clone, Copy)]
 pub struct Numbered {
     pub refusal: u8,
     pub kind: u8,

@@ -13,7 +13,7 @@ use text::put;
 use walk::look_at;
 
 // What listing gives: the octets written, or that the output is too short.
-#[derive(Drop)]
+#[derive(Clone, Copy)]
 pub enum Listed {
     Octets(usize),
     TooShort,

@@ -64,7 +64,7 @@ fn number_of_all(front: Judged, n: usize) -> u8
 }
 
 // What a piece is with the lead after it: one packet, or unfinished.
-#[derive(Drop)]
+#[derive(Clone, Copy)]
 pub struct Joined {
     pub whole: bool,
     pub unfinished: bool,
@@ -108,7 +108,7 @@ pub fn judge_joined(piece: &[u8], lead: &[u8]) -> Joined
 }
 
 // A field from its pointer on: where that is (from), where the whole packets end (to), how many there are, and whether what is left after them is dropped.
-#[derive(Drop)]
+#[derive(Clone, Copy)]
 pub struct Rest {
     pub from: usize,
     pub to: usize,

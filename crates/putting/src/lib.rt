@@ -41,7 +41,7 @@ fn put_at_once(out: &mut [u8], at: usize, text: &[u8])
     out[at..end].copy_from_slice(&apart[..n]);
 }
 
-// Puts text that fits octet by octet, however long it is.
+// Puts text that fits straight from where it lies, however long it is.
 fn put_one_by_one(out: &mut [u8], at: usize, text: &[u8])
     requires { at + length text.now ≤ length out.old }
     ensures { out.new ≡ put out.old at text.now }

@@ -30,14 +30,14 @@ pub struct Record {
 }
 
 // What reading one record gives: its fields, or the refusal 25 or 26.
-#[derive(Drop)]
+#[derive(Clone, Copy)]
 pub enum RecordRead {
     Fields(Record),
     Refused(u8),
 }
 
 // What writing one record gives: the octets written, or the refusal 9 or 25.
-#[derive(Drop)]
+#[derive(Clone, Copy)]
 pub enum RecordWritten {
     Octets(usize),
     Refused(u8),
@@ -45,7 +45,7 @@ pub enum RecordWritten {
 
 // What reading a file gives: its number of records; or the index of the first impossible one, which is refusal 25; or that it is not a
 // multiple of 20 octets, which is 26.
-#[derive(Drop)]
+#[derive(Clone, Copy)]
 pub enum RecordFile {
     Records(usize),
     Impossible(usize),

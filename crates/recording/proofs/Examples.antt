@@ -118,5 +118,5 @@ examples = record {
   inside = inside;
   never_three = never_three;
   unrefused_three = unrefused_three;
-  gives_up_lem = gives_up_lem;
+  gives_up = gives_up_lem;
 }

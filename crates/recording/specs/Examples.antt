@@ -85,4 +85,4 @@ pub record Examples : Type 0 where
   pub inside : idle_between three 0 broken ≡ false
   pub never_three : never_more 0 broken ≡ true
   pub unrefused_three : none_refused (answers (fresh buffer) broken_calls) ≡ true
-  pub gives_up_lem : ComesThrough three broken broken_calls buffer → ⊥
+  pub gives_up : ComesThrough three broken broken_calls buffer → ⊥

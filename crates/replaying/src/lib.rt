@@ -19,7 +19,7 @@ use telling::put_last;
 use text::put;
 
 // What is told of a call: the refusal or 0, or the answer to a packet. `Stopped` where there is no whole call.
-#[derive(Drop)]
+#[derive(Clone, Copy)]
 pub enum Outcome {
     Opened { lane: u8, refusal: u8 },
     Taken { lane: u8, answer: Answer },
@@ -28,7 +28,7 @@ pub enum Outcome {
 }
 
 // What is told of a call, its octets in the run file, and the state after it.
-#[derive(Drop)]
+#[derive(Clone, Copy)]
 pub struct Ran {
     pub outcome: Outcome,
     pub octets: usize,

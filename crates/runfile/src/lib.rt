@@ -10,7 +10,7 @@ use octets::{be16_at, be32_at, octet_at};
 use state::{State, fresh_start};
 
 // A call of the run file. `space` is the output space that it asks for; `octets` are those of the packet. `Bad` is no whole call.
-#[derive(Drop)]
+#[derive(Clone, Copy)]
 pub enum Call {
     Opening { lane: u8, settings: Settings },
     Packet { lane: u8, space: u32, octets: u32 },

@@ -9,7 +9,7 @@ use reading::read_packet;
 
 // Where a walk stopped: the octets in whole packets, their count, and the refusal that stopped it, with its place from the start of the packet that is
 // refused; or 0 and 0 at the end.
-#[derive(Drop)]
+#[derive(Clone, Copy)]
 pub struct Walked {
     pub at: usize,
     pub packets: usize,
@@ -18,7 +18,7 @@ pub struct Walked {
 }
 
 // What lies at an index: the packet, the number of its refusal, or 0, and where the next packet begins.
-#[derive(Drop)]
+#[derive(Clone, Copy)]
 pub struct Found {
     pub packet: Packet,
     pub refused: u8,

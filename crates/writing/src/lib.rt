@@ -15,7 +15,7 @@ use putting::put_octets;
 use space::put_space;
 
 // What writing gives: the octets written, or the refusal.
-#[derive(Drop)]
+#[derive(Clone, Copy)]
 pub enum Written {
     Octets(usize),
     Refused(u8),
