@@ -1,3 +1,4 @@
+pub mod Decimal
 pub mod LastFirst
 pub mod Cut
 pub mod Short
