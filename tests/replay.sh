@@ -55,7 +55,7 @@ rooms_are_as_defined() {
         output=$(sed -n 's/^run_text s = .* (zeros pool_octets) (zeros \([0-9]*\)))$/\1/p' crates/replaying/specs/Run.antt | grep .) &&
         longest=$(defined longest crates/replaying/specs/Run.antt) || return
     for room in $((blocks * octets)) "$output" $((longest + 1)); do
-        grep "^    \[0; $room\]$" crates/replay/src/main.rt || return
+        grep -E "^    let mut [a-z]+(: \[u8; $room\] = Default::default\(\)| = \[0; $room\]);$" crates/replay/src/main.rt || return
     done
 }
 

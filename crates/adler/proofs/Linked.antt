@@ -3,7 +3,10 @@ use mathlib.Core.Bool.{true}
 use prog.Linked.{Tree, World, Holds, in_world}
 use prog.LinkedThreads.{HasT}
 use Rattle.adler.proofs.TheLink as Link
-use Rattle.numbers.proofs.smaller.Symbol as numbers_smaller
+use Rattle.std.proofs.prelude.ChunksIterator.next.Symbol as ChunksIterator_next
+use Rattle.std.proofs.prelude.ChunksIterator.size_hint.Symbol as ChunksIterator_size_hint
+use Rattle.std.below.core.proofs.iter.slices.slice+T.chunks.Symbol as slice_chunks
+use Rattle.std.proofs.prelude.IteratorIntoIterator.into_iter.Symbol as IteratorIntoIterator_into_iter
 use Rattle.adler.proofs.adler32.Symbol as own_adler32
 
 pub table : Tree
@@ -12,8 +15,11 @@ table = Link.table
 -- what it calls of other crates
 abbrev pub Calls : World → Type 0
 Calls W =
-    HasT (in_world W) true numbers_smaller.code ×
-    Unit {0}
+    HasT (in_world W) true ChunksIterator_next.code ×
+    (HasT (in_world W) true ChunksIterator_size_hint.code ×
+    (HasT (in_world W) true slice_chunks.code ×
+    (HasT (in_world W) true IteratorIntoIterator_into_iter.code ×
+    Unit {0})))
 
 pub has_adler32 : (W : World) → Holds W "adler" table → Calls W → HasT (in_world W) true own_adler32.code
 unfolding table

@@ -5,15 +5,13 @@ ghost use Rattle.std.specs.Prelude.{◌≡◌, List, ◌++◌, ℕ, ◌≤◌, �
 ghost use Rattle.adler.specs.Adler.{base, adler_from, adler};
 ghost use Rattle.adler.specs.Part.{part};
 
-use numbers::smaller;
-
 const BASE: u32 = 65521;
 
 // So many octets are added before the sums are reduced, which takes divisions; neither sum can pass 32 bits by then.
 const PART: usize = 2048;
 
 // The sum of the octets, and that of what it is after each.
-#[derive(Drop)]
+#[derive(Clone, Copy)]
 struct Sums {
     first: u32,
     second: u32,
@@ -26,11 +24,9 @@ fn add_part(s: &[u8], from: Sums) -> Sums
 {
     let mut first = from.first;
     let mut second = from.second;
-    let mut i = 0;
-    while i < s.len() {
-        first += s[i] as u32;
+    for octet in s {
+        first += *octet as u32;
         second += first;
-        i += 1;
     }
     Sums {
         first: first % BASE,
@@ -46,11 +42,8 @@ pub fn adler32(s: &[u8]) -> u32
         first: 1,
         second: 0,
     };
-    let mut at = 0;
-    while at < s.len() {
-        let end = at + smaller(s.len() - at, PART);
-        sums = add_part(&s[at..end], sums);
-        at = end;
+    for part in s.chunks(PART) {
+        sums = add_part(part, sums);
     }
     sums.second * 65536 + sums.first
 }

@@ -1,8 +1,10 @@
 -- What the exported functions leave behind the pointers that a caller lends: numbers in the order of include/branmuslin.h.
 use Rattle.std.specs.Prelude.{ℕ, List, [], ◌∷◌, cond, length, eqb}
 use Rattle.octets.specs.Output.{unless_refused}
-use Rattle.packet.specs.Space.{packet_type, secondary, apid, flags, count}
+use Rattle.packet.specs.Space.{space_header, packet_type, secondary, apid, flags, count}
 use Rattle.packet.specs.Encapsulation.{protocol, user, extension}
+use Rattle.packet.specs.declared.Packet.{Packet}
+use Rattle.packet.specs.declared.Packet.TheVariants.{Space, Encapsulation}
 use Rattle.reading.specs.Reading.{is_space, refusal, place, content, content_at}
 use Rattle.writing.specs.Space.{space_octets, space_refusal}
 use Rattle.writing.specs.Encapsulation.{encap_octets, encap_refusal}
@@ -16,6 +18,11 @@ packet_numbers s =
     cond (is_space s)
     (0 ∷ packet_type s ∷ secondary s ∷ apid s ∷ flags s ∷ count s ∷ 0 ∷ 0 ∷ 0 ∷ content_at s ∷ length (content s) ∷ [])
     (7 ∷ 0 ∷ 0 ∷ 0 ∷ 0 ∷ 0 ∷ protocol s ∷ user s ∷ extension s ∷ content_at s ∷ length (content s) ∷ [])
+
+-- the same of a packet as the reader tells it
+abbrev pub numbers_of : Packet → List ℕ
+numbers_of (Space t x a f c n) = 0 ∷ t ∷ x ∷ a ∷ f ∷ c ∷ 0 ∷ 0 ∷ 0 ∷ space_header ∷ n ∷ []
+numbers_of (Encapsulation p u x h n) = 7 ∷ 0 ∷ 0 ∷ 0 ∷ 0 ∷ 0 ∷ p ∷ u ∷ x ∷ h ∷ n ∷ []
 
 abbrev pub packet_after : List ℕ → List ℕ → List ℕ
 packet_after s old = unless_refused (refusal s) (packet_numbers s) old

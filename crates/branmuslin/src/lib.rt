@@ -14,11 +14,25 @@ ghost use Rattle.writing.specs.Encapsulation.{encap_refusal, encap_after};
 ghost use Rattle.record.specs.Reading.{record_refusal, file_refusal};
 ghost use Rattle.record.specs.Writing.{writing_refusal, record_after};
 ghost use Rattle.branmuslin.specs.Lent.{packet_after, place_after, space_written_after, encap_written_after, handed, record_numbers_after, records_after, index_after};
+ghost use Rattle.branmuslin.specs.Told.{number_of, left_of};
 
-use packet::Packet;
-use record::{Record, RecordFile, RecordRead, RecordWritten};
-use struct_numbers::{encapsulation_numbers, space_numbers};
-use writing::Written;
+use record::{FileFault, Record};
+use refusal::Refusal;
+use struct_numbers::{packet_numbers, record_numbers};
+
+// Leaves what a call told where it was lent room for it, and gives the number of the refusal, or 0: the enum ends here, since C is given numbers.
+fn leave<T: Copy>(told: Result<T, Refusal>, lent: &mut T) -> u8
+    ensures value { result ≡ number_of told }
+    ensures lent_after { lent.new ≡ left_of told lent.old }
+{
+    match told {
+        Ok(value) => {
+            *lent = value;
+            0
+        }
+        Err(refusal) => u8::from(refusal),
+    }
+}
 
 // Reads the packet at the front of the octets into the numbers of struct branmuslin_packet; or tells the refusal with its place.
 #[unsafe(no_mangle)]
@@ -31,32 +45,14 @@ pub extern "C" fn branmuslin_read_packet(
     ensures numbers_after { numbers.new ≡ packet_after octets.now numbers.old }
     ensures place_after { place.new ≡ place_after octets.now place.old }
 {
-    let p = reading::read_packet(octets);
-    match p {
-        Packet::Space {
-            packet_type,
-            secondary,
-            apid,
-            flags,
-            count,
-            octets: n,
-        } => {
-            *numbers = space_numbers(packet_type, secondary, apid, flags, count, n);
+    match reading::read_packet(octets) {
+        Ok(p) => {
+            *numbers = packet_numbers(p);
             0
         }
-        Packet::Encapsulation {
-            protocol,
-            user,
-            extension,
-            header,
-            octets: n,
-        } => {
-            *numbers = encapsulation_numbers(protocol, user, extension, header, n);
-            0
-        }
-        Packet::Refused { number, place: at } => {
-            *place = at as usize;
-            number
+        Err(unread) => {
+            *place = unread.place as usize;
+            u8::from(unread.refusal)
         }
     }
 }
@@ -77,14 +73,8 @@ pub extern "C" fn branmuslin_write_space(
     ensures out_after { out.new ≡ space_after packet_type secondary apid flags count field.now out.old }
     ensures written_after { written.new ≡ space_written_after packet_type secondary apid flags count field.now out.old written.old }
 {
-    let w = writing::write_space(packet_type, secondary, apid, flags, count, field, out);
-    match w {
-        Written::Octets(octets) => {
-            *written = octets;
-            0
-        }
-        Written::Refused(number) => number,
-    }
+    let octets = writing::write_space(packet_type, secondary, apid, flags, count, field, out);
+    leave(octets, written)
 }
 
 // Writes an Encapsulation Packet at the front of out, and tells its octets.
@@ -101,14 +91,8 @@ pub extern "C" fn branmuslin_write_encapsulation(
     ensures out_after { out.new ≡ encap_after protocol user extension content.now out.old }
     ensures written_after { written.new ≡ encap_written_after protocol user extension content.now out.old written.old }
 {
-    let w = writing::write_encapsulation(protocol, user, extension, content, out);
-    match w {
-        Written::Octets(n) => {
-            *written = n;
-            0
-        }
-        Written::Refused(number) => number,
-    }
+    let octets = writing::write_encapsulation(protocol, user, extension, content, out);
+    leave(octets, written)
 }
 
 // Writes a record at the front of out.
@@ -125,21 +109,16 @@ pub extern "C" fn branmuslin_write_record(
     ensures value { result ≡ writing_refusal (handed station apid units packets missing broken) (length out.old) }
     ensures out_after { out.new ≡ record_after (handed station apid units packets missing broken) out.old }
 {
-    let w = record::write_record(
-        Record {
-            station,
-            apid,
-            units,
-            packets,
-            missing,
-            broken,
-        },
-        out,
-    );
-    match w {
-        RecordWritten::Octets(_) => 0,
-        RecordWritten::Refused(number) => number,
-    }
+    let given = Record {
+        station,
+        apid,
+        units,
+        packets,
+        missing,
+        broken,
+    };
+    let mut octets = 0;
+    leave(record::write_record(given, out), &mut octets)
 }
 
 // Reads one record into the numbers of struct branmuslin_record.
@@ -148,21 +127,8 @@ pub extern "C" fn branmuslin_read_record(octets: &[u8], numbers: &mut [u32; 6]) 
     ensures value { result ≡ record_refusal octets.now }
     ensures numbers_after { numbers.new ≡ record_numbers_after octets.now numbers.old }
 {
-    let read = record::read_record(octets);
-    match read {
-        RecordRead::Fields(r) => {
-            *numbers = [
-                r.station as u32,
-                r.apid as u32,
-                r.units,
-                r.packets,
-                r.missing,
-                r.broken,
-            ];
-            0
-        }
-        RecordRead::Refused(number) => number,
-    }
+    let read = record::read_record(octets).map(record_numbers);
+    leave(read, numbers)
 }
 
 // Reads a file of records: tells its number of records or, with 25, the index of the first impossible one.
@@ -177,15 +143,9 @@ pub extern "C" fn branmuslin_read_record_file(
     ensures index_after { index.new ≡ index_after octets.now index.old }
 {
     let file = record::read_record_file(octets);
-    match file {
-        RecordFile::Records(n) => {
-            *records = n;
-            0
-        }
-        RecordFile::Impossible(i) => {
-            *index = i;
-            25
-        }
-        RecordFile::Ragged => 26,
+    let number = leave(file.map_err(Refusal::from), records);
+    if let Err(FileFault::Impossible(i)) = file {
+        *index = i;
     }
+    number
 }

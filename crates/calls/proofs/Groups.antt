@@ -16,8 +16,9 @@ use Rattle.lane.specs.declared.Settings.{Settings}
 use Rattle.lane.specs.declared.Lane.{Lane}
 use Rattle.lane.proofs.Fine.{held_most}
 use Rattle.grouping.specs.declared.Added.{Added}
-use Rattle.grouping.specs.declared.Step.{Step}
-use Rattle.grouping.specs.declared.Step.TheVariants.{Refuse, Unread, Repeat, Stray, Hold, Unit}
+use Rattle.grouping.specs.Steps.{Outcome}
+use Rattle.std.specs.Prelude.{Ok, Err}
+use Rattle.grouping.specs.declared.Step.TheVariants.{Repeat, Stray, Hold, Unit}
 use Rattle.lane.specs.Lane.{closed, held}
 use Rattle.grouping.specs.Steps.{lane_after}
 use Rattle.grouping.proofs.Planned.{of_either}
@@ -81,7 +82,7 @@ module _ (s : State) (k : Sound s) (i j : ℕ) (other : i ≡ j → ⊥) (small 
   closing_leaves octets room =
       unless (λ (t : State). Leaves j s pool t pool) (closing_refusal s i octets room) stays (λ e. leaves _ _ pool (released_other s i j (lane_at s j).octets other small fits pool))
 
-  after_leaves : (p : List ℕ) (octets room : ℕ) {d : Step} → Stepped s i p octets room d
+  after_leaves : (p : List ℕ) (octets room : ℕ) {d : Outcome} → Stepped s i p octets room d
       → Leaves j s pool (answered s i d).state (pool_after s.marks i (lane_at s i) d (user_of s i p) pool)
   unfolding lane_after marks_after pool_after
   after_leaves p octets room (refuses n h) = leaves _ s.marks pool refl
@@ -92,10 +93,10 @@ module _ (s : State) (k : Sound s) (i j : ℕ) (other : i ≡ j → ⊥) (small 
   after_leaves p octets room (holds a on n f e) =
       let g = group_grows s k i a on n (length (user_of s i p)) f e in
       let marks : List ℕ = grown s.marks i (lane_at s i) on n in
-      let has : Has marks j (lane_at s j).octets = rw (lane_other (lane_after (lane_at s i) (Hold a on n))) at (has_places _ (after_step s k i p octets room (holds a on n f e)) j small) in
+      let has : Has marks j (lane_at s j).octets = rw (lane_other (lane_after (lane_at s i) (Ok (Hold a on n)))) at (has_places _ (after_step s k i p octets room (holds a on n f e)) j small) in
       leaves _ marks _
       (stored_for_another marks j i pool (cond on (lane_at s i).octets 0) (user_of s i p) (lane_at s j).octets (λ z. other (sym z)) fits
-      (omega (arith, (held_most (lane_after (lane_at s i) (Hold a on n)) f.good).1)) has
+      (omega (arith, (held_most (lane_after (lane_at s i) (Ok (Hold a on n))) f.good).1)) has
       ∙ grown_other s i j (lane_at s j).octets other small fits pool on n g.0 g.1)
 
   pub taking_leaves : (p : List ℕ) (room : ℕ) → Leaves j s pool (taking s i p (length pool) room).state (taking_pool s i p room pool)
@@ -134,24 +135,24 @@ module _ (s : State) (k : Sound s) (i : ℕ) (p : List ℕ) where
     joined_length small e = length-append (group_of s.marks i (lane_at s i) on pool) user ∙ omega (arith, group_length small, e)
 
     -- what was stored is what is gathered, all of it
-    pub held_gathered : {octets room : ℕ} → Stepped s i p octets room (Hold a on n)
-        → (group_in (answered s i (Hold a on n)).state (stored marks i pool start user) i ≡ joined_with) × (length joined_with ≡ n)
+    pub held_gathered : {octets room : ℕ} → Stepped s i p octets room (Ok (Hold a on n))
+        → (group_in (answered s i (Ok (Hold a on n))).state (stored marks i pool start user) i ≡ joined_with) × (length joined_with ≡ n)
     unfolding lane_after marks_after
     held_gathered {octets} {room} (holds a on n f e) =
-        let next : Sound (answered s i (Hold a on n)).state = after_step s k i p octets room (holds a on n f e) in
-        let here : lane_at (answered s i (Hold a on n)).state i ≡ lane_after (lane_at s i) (Hold a on n) =
-        get_or-set_same s.lanes i (lane_after (lane_at s i) (Hold a on n)) closed (omega (arith, k.shape.0, f.small)) in
+        let next : Sound (answered s i (Ok (Hold a on n))).state = after_step s k i p octets room (holds a on n f e) in
+        let here : lane_at (answered s i (Ok (Hold a on n))).state i ≡ lane_after (lane_at s i) (Ok (Hold a on n)) =
+        get_or-set_same s.lanes i (lane_after (lane_at s i) (Ok (Hold a on n))) closed (omega (arith, k.shape.0, f.small)) in
         let has : Has marks i n = rw here at (has_places _ next i f.small) in
         let g = group_grows s k i a on n (length user) f e in (
           rw here
               (ap (λ (m : ℕ). gathered marks i (stored marks i pool start user) 0 m) e
-              ∙ stored_gathered marks next.shape.1 i pool start user size (omega (arith, (held_most (lane_after (lane_at s i) (Hold a on n)) f.good).1)) (rw (← e) has)
+              ∙ stored_gathered marks next.shape.1 i pool start user size (omega (arith, (held_most (lane_after (lane_at s i) (Ok (Hold a on n))) f.good).1)) (rw (← e) has)
               ∙ ap (λ (g : List ℕ). g ++ user) (own_kept on n f.small g.0 g.1 pool)),
           joined_length f.small e,
         )
 
     -- a unit has the octets that are told, and they fit
-    pub unit_fits : {octets room : ℕ} → Stepped s i p octets room (Unit a on n) → (length joined_with ≡ n) × (n ≤ room)
+    pub unit_fits : {octets room : ℕ} → Stepped s i p octets room (Ok (Unit a on n)) → (length joined_with ≡ n) × (n ≤ room)
     unit_fits (ends a on n f e h) = (joined_length f.small e, h)
 
 -- the pool stays as long as it is
@@ -159,10 +160,9 @@ pub pool_length : (s : State) (i : ℕ) (p : List ℕ) (room : ℕ) (pool : List
 unfolding taking_pool pool_after
 pool_length s i p room pool = of_step (packet_step s i p (length pool) room)
   where
-    of_step : (d : Step) → length (pool_after s.marks i (lane_at s i) d (user_of s i p) pool) ≡ length pool
-    of_step (Refuse n) = refl
-    of_step (Unread n place) = refl
-    of_step Repeat = refl
-    of_step (Stray a) = refl
-    of_step (Hold a on n) = stored_length (grown s.marks i (lane_at s i) on n) i pool (cond on (lane_at s i).octets 0) (user_of s i p)
-    of_step (Unit a on n) = refl
+    of_step : (d : Outcome) → length (pool_after s.marks i (lane_at s i) d (user_of s i p) pool) ≡ length pool
+    of_step (Err r) = refl
+    of_step (Ok Repeat) = refl
+    of_step (Ok (Stray a)) = refl
+    of_step (Ok (Hold a on n)) = stored_length (grown s.marks i (lane_at s i) on n) i pool (cond on (lane_at s i).octets 0) (user_of s i p)
+    of_step (Ok (Unit a on n)) = refl

@@ -18,7 +18,12 @@ use Rattle.marks.proofs.Finding.{by_case, never_both}
 use Rattle.lane.specs.declared.Settings.{Settings}
 use Rattle.lane.specs.declared.Lane.{Lane}
 use Rattle.grouping.specs.declared.Added.{Added}
-use Rattle.grouping.specs.declared.Step.TheVariants.{Refuse, Unread, Repeat, Stray, Hold, Unit}
+use Rattle.std.specs.Prelude.{Ok, Err}
+use Rattle.refusal.specs.Refusal.{number}
+use Rattle.refusal.specs.declared.Refusal.{Refusal}
+use Rattle.packet.specs.declared.Unread as read
+use Rattle.grouping.specs.declared.Refused.TheVariants.{Unread, Untaken}
+use Rattle.grouping.specs.declared.Step.TheVariants.{Repeat, Stray, Hold, Unit}
 use Rattle.lane.specs.Lane.{held}
 use Rattle.grouping.specs.Grouping.{missing_before}
 use Rattle.grouping.specs.Steps.{lane_after}
@@ -60,16 +65,16 @@ module _ (s : State) (i : ℕ) where
     Untouched =
         ((taking s i p (length pool) (length out)).state ≡ s) × (taking_pool s i p (length out) pool ≡ pool) × (taking_out s i p pool out ≡ out)
 
-    pub refused_leaves : (n : ℕ) → packet_step s i p (length pool) (length out) ≡ Refuse n → Untouched
+    pub refused_leaves : (r : Refusal) → packet_step s i p (length pool) (length out) ≡ Err (Untaken r) → Untouched
     unfolding taking taking_pool taking_out lane_after marks_after pool_after out_after
-    refused_leaves n e = rw e (sym (same_state s i), refl, refl)
+    refused_leaves r e = rw e (sym (same_state s i), refl, refl)
 
-    pub unread_leaves : (n q : ℕ) → packet_step s i p (length pool) (length out) ≡ Unread n q → Untouched
+    pub unread_leaves : (u : read.Unread) → packet_step s i p (length pool) (length out) ≡ Err (Unread u) → Untouched
     unfolding taking taking_pool taking_out lane_after marks_after pool_after out_after
-    unread_leaves n q e = rw e (sym (same_state s i), refl, refl)
+    unread_leaves u e = rw e (sym (same_state s i), refl, refl)
 
     -- the answer is Repeat: nothing changes
-    pub repeat_leaves : packet_step s i p (length pool) (length out) ≡ Repeat → Untouched
+    pub repeat_leaves : packet_step s i p (length pool) (length out) ≡ Ok Repeat → Untouched
     unfolding taking taking_pool taking_out lane_after marks_after pool_after out_after
     repeat_leaves e = rw e (sym (same_state s i), refl, refl)
 
@@ -100,28 +105,28 @@ module _ (s : State) (shape : Shaped s) (i : ℕ) (p : List ℕ) (octets room : 
   pub sum_refuses : unsound s octets ≡ false → (number_given ≡ 27) ↔ OverSum s.lanes i p
   sum_refuses u = rw (judged u) (sum_exactly s.lanes i p room shape.0)
 
-  module _ (n : ℕ) (refused : NoRoom n) (given : packet_step s i p octets room ≡ Refuse n) where
+  module _ (r : Refusal) (refused : NoRoom (number r)) (given : packet_step s i p octets room ≡ Err (Untaken r)) where
     passed : unsound s octets ≡ false
     unfolding packet_step
     passed = either (unsound s octets) (λ u. absurd (not_24 refused (ap refusal_of (sym given) ∙ simp u))) (λ u. u)
       where
-        not_24 : NoRoom n → n ≡ 24 → ⊥
+        not_24 : NoRoom (number r) → number r ≡ 24 → ⊥
         not_24 (inl e) z = omega arith
         not_24 (inr e) z = omega arith
 
     found_sound : Sound s
     found_sound = is_sound s shape (then_sound s octets passed).0
 
-    told : first 0 (numbers_of (packet_causes s.lanes i p room)) ≡ n
+    told : first 0 (numbers_of (packet_causes s.lanes i p room)) ≡ number r
     told = sym (judged passed) ∙ ap refusal_of given
 
     -- A last or unsegmented packet needs no block: 19 and 27 are given only for a packet that begins a group or adds to one
     pub only_held : ToHold (lane_at s i) p
-    only_held = held_only s found_sound i p room n refused told
+    only_held = held_only s found_sound i p room (number r) refused told
 
     -- and a lane in its share isn't refused room
     pub within_share : would_hold (lane_at s i) p ≤ (lane_at s i).settings.share → ⊥
-    within_share few = omega (arith, above_share s found_sound i p room n refused told)
+    within_share few = omega (arith, above_share s found_sound i p room (number r) refused told)
 
 -- ---- missing = (count - last - 1) mod 16,384, or 0 for the first packet
 module _ (l : Lane) (c : ℕ) where
@@ -165,19 +170,19 @@ module _ (s : State) (shape : Shaped s) (e : sound s ≡ true) where
     joined_with on = group_of s.marks i (lane_at s i) on pool ++ user_of s i p
 
     -- ---- Only packets answered Held store octets: what was stored is what is gathered, n octets
-    pub stored_is_gathered : (room : ℕ) (a : Added) (on : Bool) (n : ℕ) → packet_step s i p (length pool) room ≡ Hold a on n
+    pub stored_is_gathered : (room : ℕ) (a : Added) (on : Bool) (n : ℕ) → packet_step s i p (length pool) room ≡ Ok (Hold a on n)
         → (group_in (taking s i p (length pool) room).state (taking_pool s i p room pool) i ≡ joined_with on) × (length (joined_with on) ≡ n)
     unfolding taking taking_pool marks_after pool_after
     stored_is_gathered room a on n h =
-        let d : Stepped s i p (length pool) room (Hold a on n) = subst (Stepped s i p (length pool) room) h (stepped s k i p (length pool) room) in
+        let d : Stepped s i p (length pool) room (Ok (Hold a on n)) = subst (Stepped s i p (length pool) room) h (stepped s k i p (length pool) room) in
         rw h (held_gathered s k i p pool (pool_then s i p (length pool) room h (λ z. omega arith)) a on n d)
 
     -- ---- A unit is written at the front of the output: group and user data together, n octets, which fit
-    pub unit_written : (out : List ℕ) (a : Added) (on : Bool) (n : ℕ) → packet_step s i p (length pool) (length out) ≡ Unit a on n
+    pub unit_written : (out : List ℕ) (a : Added) (on : Bool) (n : ℕ) → packet_step s i p (length pool) (length out) ≡ Ok (Unit a on n)
         → (taking_out s i p pool out ≡ put out 0 (joined_with on)) × (length (joined_with on) ≡ n) × (n ≤ length out)
     unfolding taking_out out_after
     unit_written out a on n h =
-        let d : Stepped s i p (length pool) (length out) (Unit a on n) = subst (Stepped s i p (length pool) (length out)) h (stepped s k i p (length pool) (length out)) in
+        let d : Stepped s i p (length pool) (length out) (Ok (Unit a on n)) = subst (Stepped s i p (length pool) (length out)) h (stepped s k i p (length pool) (length out)) in
         let size : length pool ≡ 16384 = pool_then s i p (length pool) (length out) h (λ z. omega arith) in
         let fits = unit_fits s k i p pool size a on n d in
         rw h (refl, fits.0, fits.1)
@@ -215,16 +220,16 @@ module _ (s : State) (shape : Shaped s) (e : sound s ≡ true) where
   closing_frees i octets room z = simp (eq-eqb _ _ z) (frees i (closed_small s k i octets room z))
 
   module _ (i : ℕ) (p : List ℕ) (octets room : ℕ) where
-    of_stray : (a : Added) → Stepped s i p octets room (Stray a) → i < 8
+    of_stray : (a : Added) → Stepped s i p octets room (Ok (Stray a)) → i < 8
     of_stray a (strays c f) = f.small
 
-    of_unit : (a : Added) (on : Bool) (n : ℕ) → Stepped s i p octets room (Unit a on n) → i < 8
+    of_unit : (a : Added) (on : Bool) (n : ℕ) → Stepped s i p octets room (Ok (Unit a on n)) → i < 8
     of_unit a on n (ends c o m f e h) = f.small
 
-    pub stray_frees : (a : Added) → packet_step s i p octets room ≡ Stray a → Frees i (taking s i p octets room).state.marks
+    pub stray_frees : (a : Added) → packet_step s i p octets room ≡ Ok (Stray a) → Frees i (taking s i p octets room).state.marks
     unfolding taking marks_after
     stray_frees a z = rw z (frees i (of_stray a (subst (Stepped s i p octets room) z (stepped s k i p octets room))))
 
-    pub unit_frees : (a : Added) (on : Bool) (n : ℕ) → packet_step s i p octets room ≡ Unit a on n → Frees i (taking s i p octets room).state.marks
+    pub unit_frees : (a : Added) (on : Bool) (n : ℕ) → packet_step s i p octets room ≡ Ok (Unit a on n) → Frees i (taking s i p octets room).state.marks
     unfolding taking marks_after
     unit_frees a on n z = rw z (frees i (of_unit a on n (subst (Stepped s i p octets room) z (stepped s k i p octets room))))

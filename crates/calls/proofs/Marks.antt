@@ -17,7 +17,8 @@ use Rattle.marks.proofs.Leaving.{freed_length, granted_length}
 use Rattle.marks.proofs.Counts.{is_of, freed_is_free}
 use Rattle.marks.proofs.Matched.{Matched, matched, sum_set, matching_freed, matching_granted}
 use Rattle.lane.specs.declared.Lane.{Lane}
-use Rattle.grouping.specs.declared.Step.{Step}
+use Rattle.std.specs.Prelude.{Ok, Err}
+use Rattle.grouping.specs.Steps.{Outcome}
 use Rattle.grouping.specs.declared.Step.TheVariants as step
 use Rattle.lane.specs.Lane.{held, fine}
 use Rattle.lane.proofs.Fine.{is_fine, none_held}
@@ -52,14 +53,13 @@ module _ (marks : List ℕ) (i : ℕ) (l : Lane) where
   pub grown_length : (on : Bool) (n : ℕ) → length (grown marks i l on n) ≡ length marks
   grown_length on n = rw (grows on n) (granted_length (kept on) (mark i (blocks_kept on)) (blocks_for n - blocks_kept on) ∙ kept_length on)
 
-  pub marks_length : (d : Step) → length (marks_after marks i l d) ≡ length marks
+  pub marks_length : (d : Outcome) → length (marks_after marks i l d) ≡ length marks
   unfolding marks_after
-  marks_length (step.Refuse k) = refl
-  marks_length (step.Unread k place) = refl
-  marks_length step.Repeat = refl
-  marks_length (step.Stray a) = released_length
-  marks_length (step.Hold a on n) = grown_length on n
-  marks_length (step.Unit a on n) = released_length
+  marks_length (Err r) = refl
+  marks_length (Ok step.Repeat) = refl
+  marks_length (Ok (step.Stray a)) = released_length
+  marks_length (Ok (step.Hold a on n)) = grown_length on n
+  marks_length (Ok (step.Unit a on n)) = released_length
 
 -- a block that passes a test is counted
 counted : (p : ℕ → Bool) (marks : List ℕ) (b : ℕ) → b < length marks → p (get_or marks b 0) ≡ true → 0 < count p marks

@@ -12,12 +12,14 @@ use Rattle.octets.specs.Order.{Test, ◌gives◌, first, numbers_of}
 use Rattle.octets.proofs.Order.{either, first_append, Numbers, numbers_append, numbers_of_append, first_unless}
 use Rattle.packet.specs.Space.{flags, count}
 use Rattle.reading.specs.Reading.{is_space, reading_tests, refusal}
-use Rattle.reading.proofs.Exactly.{in_order}
+use Rattle.reading.proofs.Exactly.{in_order, refusal_most}
 use Rattle.record.specs.Record.{most_packets}
 use Rattle.marks.specs.Blocks.{blocks_for}
 use Rattle.lane.specs.declared.Lane.{Lane}
 use Rattle.grouping.specs.declared.Added.{Added}
+use Rattle.std.specs.Prelude.{Ok}
 use Rattle.grouping.specs.declared.Step.TheVariants.{Stray}
+use Rattle.refusal.proofs.Numbers.{of_its_name}
 use Rattle.grouping.specs.declared.Plan.TheVariants.{Sure}
 use Rattle.lane.specs.Lane.{holding, closed}
 use Rattle.grouping.specs.Packets.{terms_of, lane_tests, fault, user_octets}
@@ -25,7 +27,7 @@ use Rattle.grouping.specs.Grouping.{repeats, goes_on, added_from}
 use Rattle.grouping.specs.Plans.{hold_plan, unit_plan, grouping_plan, accepted_plan, packet_plan}
 use Rattle.lane.proofs.Fine.{none_held}
 use Rattle.grouping.specs.declared.Terms.{Terms}
-use Rattle.grouping.proofs.Accepted.{fault_read}
+use Rattle.grouping.proofs.Accepted.{fault_read, fault_most}
 use Rattle.state.specs.declared.State.{State}
 use Rattle.state.specs.State.{lane_at, within, unsound}
 use Rattle.state.proofs.Within.{share_fits}
@@ -66,7 +68,7 @@ module _ (ls : List Lane) (i room : ℕ) where
     unfolding unit_plan settle
     to_end a on n = rw (none_to_hold n) (either (ltb room n) (λ e. simp e) (λ e. simp e))
 
-    to_stray : (a : Added) → refusal_of (settle ls i (Sure (Stray a))) ≡ Last 0 0
+    to_stray : (a : Added) → refusal_of (settle ls i (Ok (Sure (Stray a)))) ≡ Last 0 0
     unfolding settle
     to_stray a = rw (none_to_hold 0) (simp (le-ltb room 0 (omega arith)))
 
@@ -122,8 +124,16 @@ ordered s shape i p octets room =
     let l : Lane = lane_at s i in
     either (unsound s octets) (λ e. simp e)
     (λ e. simp e (either (not l.opened) (λ a. simp a)
-    (λ a. simp a (rw (faults (terms_of l) p _) (either (not (eqb (refusal p) 0)) (λ r. rw (fault_read (terms_of l) p (eqb-false _ _ (not-true _ r))) (simp r))
-    (λ r. simp r (either (not (eqb (fault (terms_of l) p) 0)) (λ b. simp b)
+    (λ a. simp a (rw (faults (terms_of l) p _) (either (not (eqb (refusal p) 0))
+    (λ r.
+    let some = eqb-false _ _ (not-true _ r) in
+    let e = of_its_name (refusal p) (omega (arith, some)) (omega (arith, refusal_most p)) in
+    rw (fault_read (terms_of l) p some) (simp (r, e)))
+    (λ r. simp r (either (not (eqb (fault (terms_of l) p) 0))
+    (λ b.
+    let some = eqb-false _ _ (not-true _ b) in
+    let e = of_its_name (fault (terms_of l) p) (omega (arith, some)) (omega (arith, fault_most (terms_of l) p)) in
+    simp (b, e))
     (λ b. simp b (either (repeats l (count p)) (λ c. simp c)
     (λ c. simp c (either (leb most_packets l.packets) (λ d. simp d)
     (λ d. simp d (grouping s.lanes i room (share_fits s.lanes i (not-false _ a) 0 (omega (arith, none_held)) (is_sound s shape (then_sound s octets e).0).room) p)))))))))))))

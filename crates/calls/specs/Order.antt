@@ -7,21 +7,24 @@ use Rattle.record.specs.Record.{most_packets}
 use Rattle.marks.specs.Blocks.{blocks_for}
 use Rattle.lane.specs.declared.Lane.{Lane}
 use Rattle.lane.specs.Lane.{closed, holding}
-use Rattle.grouping.specs.declared.Step.{Step}
-use Rattle.grouping.specs.declared.Step.TheVariants.{Refuse, Unread, Repeat, Stray, Hold, Unit}
+use Rattle.grouping.specs.Steps.{Outcome}
+use Rattle.std.specs.Prelude.{Ok, Err}
+use Rattle.refusal.specs.Refusal.{number}
+use Rattle.grouping.specs.declared.Refused.TheVariants.{Unread, Untaken}
+use Rattle.grouping.specs.declared.Step.TheVariants.{Repeat, Stray, Hold, Unit}
 use Rattle.grouping.specs.Packets.{terms_of, lane_tests, user_octets}
 use Rattle.grouping.specs.Grouping.{repeats, goes_on}
 use Rattle.state.specs.declared.State.{State}
 use Rattle.state.specs.State.{within, unsound}
 
 -- a packet's refusal, and 0 for none
-abbrev pub refusal_of : Step → ℕ
-refusal_of (Refuse k) = k
-refusal_of (Unread k place) = k
-refusal_of Repeat = 0
-refusal_of (Stray a) = 0
-refusal_of (Hold a on n) = 0
-refusal_of (Unit a on n) = 0
+abbrev pub refusal_of : Outcome → ℕ
+refusal_of (Err (Unread u)) = number u.refusal
+refusal_of (Err (Untaken r)) = number r
+refusal_of (Ok Repeat) = 0
+refusal_of (Ok (Stray a)) = 0
+refusal_of (Ok (Hold a on n)) = 0
+refusal_of (Ok (Unit a on n)) = 0
 
 -- the octets of the group that packet p begins or adds to, and 0 where the answer isn't Held
 unfoldable pub would_group : Lane → List ℕ → ℕ

@@ -1,88 +1,57 @@
 // The words of a line: a verb, then numbers in decimal, octets in hexadecimal, or a name. Every function is total, so that a line can say
 // anything; a number that is missing is 0.
-ghost use Rattle.std.specs.Prelude.{◌≡◌, length};
+use crate::say::front;
 
-use octets::octet_at;
-use putting::put_octet;
+// The words of a line as numbers, in their order; those of the verb mean nothing.
+pub(crate) type Numbers = [u32; 16];
 
-// The octets of s from index `from` up to `to`, or none.
-pub(crate) fn part(s: &[u8], from: usize, to: usize) -> &[u8] {
-    if to <= s.len() {
-        if from <= to {
-            return &s[from..to];
-        }
-    }
-    &s[..0]
+// What 16 bits hold of a number, and what 8 do: `as` is proved to lose nothing.
+pub(crate) fn low16(n: u32) -> u16 {
+    (n % 65536) as u16
 }
 
-// The number of the word in which an octet stands, by that of the octet before it; no line has more than 65,536.
-pub(crate) fn word_with(word: usize, octet: u8) -> usize {
-    if word <= 65536 {
-        if octet == b' ' {
-            return word + 1;
-        }
-    }
-    word
+pub(crate) fn low8(n: u32) -> u8 {
+    (n % 256) as u8
 }
 
-// The number with one more digit, modulo 2^32; a blank is none.
-fn longer(n: u32, octet: u8) -> u32 {
-    if octet == b' ' {
-        n
-    } else {
-        ((n as u64 * 10 + octet as u64 % 16) % 4294967296) as u32
-    }
+// The line from an index on, or nothing.
+pub(crate) fn rest_of(line: &[u8], from: usize) -> &[u8] {
+    line.get(from..).unwrap_or_default()
+}
+
+// The number with one more digit, modulo 2^32.
+fn longer(n: u32, digit: u8) -> u32 {
+    n.wrapping_mul(10).wrapping_add(u32::from(digit % 16))
 }
 
 // The octet with one more digit, modulo 2^8; a blank is none.
-fn shifted(n: u8, octet: u8) -> u8 {
-    if octet == b' ' {
-        return n;
+fn shifted(n: u8, digit: u8) -> u8 {
+    match digit {
+        b' ' => n,
+        ..b'a' => n.wrapping_mul(16).wrapping_add(digit % 16),
+        _ => n.wrapping_mul(16).wrapping_add(digit % 16 + 9),
     }
-    let digit = if octet < b'a' {
-        octet % 16
-    } else {
-        octet % 16 + 9
-    };
-    ((n as u32 * 16 + digit as u32) % 256) as u8
 }
 
-// The words of the line as numbers, in their order; those of the verb mean nothing.
-pub(crate) fn numbers_of(line: &[u8]) -> [u32; 16]
-    ensures { 16 ≡ length result }
-{
-    let mut numbers = [0u32; 16];
-    let mut word = 0;
-    let mut i = 0;
-    while i < line.len() {
-        word = word_with(word, line[i]);
-        let k = word % 16;
-        numbers[k] = longer(numbers[k], line[i]);
-        i += 1;
+// After the sixteenth word the places are taken again from the first.
+pub(crate) fn numbers_of(line: &[u8]) -> Numbers {
+    let mut numbers = [0; 16];
+    for (k, word) in line.split(|octet| *octet == b' ').enumerate() {
+        let number = &mut numbers[k % 16];
+        *number = word.iter().fold(*number, |n, digit| longer(n, *digit));
     }
     numbers
 }
 
-// Number k of a line.
-pub(crate) fn at(n: [u32; 16], k: usize) -> u32 {
-    if k < 16 { n[k] } else { 0 }
-}
-
-// Puts the octets that stand from index `from` on at the front of out, which is all zeros; each has two digits, and a blank before the next.
-pub(crate) fn put_octets_from(line: &[u8], from: usize, out: &mut [u8]) {
-    let mut i = from;
-    while i < line.len() {
-        let at = (i - from) / 3;
-        put_octet(out, at, shifted(octet_at(out, at), line[i]));
-        i += 1;
+// The octets that the text gives, put at the front of the room, which is all zeros: each has two digits, and a blank before the next.
+pub(crate) fn octets_of<'a>(text: &[u8], room: &'a mut [u8]) -> &'a [u8] {
+    for (octet, digits) in room.iter_mut().zip(text.chunks(3)) {
+        *octet = digits.iter().fold(0, |n, digit| shifted(n, *digit));
     }
-}
-
-// How many octets stand from index `from` on.
-pub(crate) fn octets_from(line: &[u8], from: usize) -> usize {
-    if from < line.len() {
-        (line.len() - from) / 3 + 1
-    } else {
+    let count = if text.is_empty() {
         0
-    }
+    } else {
+        text.len() / 3 + 1
+    };
+    front(room, count)
 }

@@ -2,48 +2,20 @@
 // this folder has the paper's cases that are not starred, and says what each line means; so a new case is a line there.
 #![tactic(auto)]
 
-ghost use Rattle.std.specs.Prelude.{◌≤◌, length, IfOk};
-
 mod lane_cases;
 mod line;
 mod octet_cases;
 mod say;
 mod writing_cases;
 
-use lane_cases::{close, fill, open, put_packet, say_sound, send, with_lane, with_mark};
-use line::{at, numbers_of, part};
-use octet_cases::say_reading;
-use octets::be32_at;
-use say::{front, lend, say_word};
+use lane_cases::{close, fill, make_lane, make_mark, open, say_sound, send};
+use line::numbers_of;
+use octet_cases::{say_reading, say_walking};
+use say::lend;
 use state::{State, fresh_start};
 use std::io;
 use std::io::{Read, Write};
 use writing_cases::{fill_content, say_writing};
-
-// A verb is known by its first four letters.
-const READ: u32 = 0x72656164;
-
-const WALK: u32 = 0x77616C6B;
-
-const WRIT: u32 = 0x77726974;
-
-const FRES: u32 = 0x66726573;
-
-const OPEN: u32 = 0x6F70656E;
-
-const PACK: u32 = 0x7061636B;
-
-const CLOS: u32 = 0x636C6F73;
-
-const FILL: u32 = 0x66696C6C;
-
-const SOUN: u32 = 0x736F756E;
-
-const LANE: u32 = 0x6C616E65;
-
-const MARK: u32 = 0x6D61726B;
-
-const POOL: u32 = 0x706F6F6C;
 
 // What the lines so far made: the state of the lanes, and how many octets of the pool are lent.
 #[derive(Drop)]
@@ -52,106 +24,63 @@ struct Made {
     pool: usize,
 }
 
-// Whether the line is to print nothing, as a comment and what only prepares a case.
-fn is_silent(verb: u32) -> bool {
-    match verb {
-        LANE | MARK | POOL => true,
-        _ => verb / 16777216 <= 35,
-    }
+// A line that begins with # is passed over, and so is one without a word.
+fn is_passed_over(line: &[u8]) -> bool {
+    line.first().is_none_or(|octet| *octet <= b'#')
 }
 
-// What is made once a line was run that prepares a case.
-fn prepared(made: Made, verb: u32, n: [u32; 16]) -> Made {
-    let state = made.state;
-    match verb {
-        LANE => Made {
-            state: with_lane(state, n),
-            pool: made.pool,
-        },
-        MARK => Made {
-            state: with_mark(state, n),
-            pool: made.pool,
-        },
-        POOL => Made {
-            state,
-            pool: at(n, 1) as usize,
-        },
-        _ => made,
-    }
-}
-
-// Tells what a case about octets comes to; answers whether it is one.
-fn is_octets<W: Write>(
+// Tells what a case comes to. A verb is known by its first four letters.
+fn tell<W: Write>(
     to: &mut W,
     line: &[u8],
-    verb: u32,
-    n: [u32; 16],
-    content: &[u8],
-) -> io::Result<bool> {
-    match verb {
-        READ => say_reading(to, line, false)?,
-        WALK => say_reading(to, line, true)?,
-        WRIT => say_writing(to, be32_at(line, 6), n, content)?,
-        _ => return Ok(false),
-    }
-    Ok(true)
-}
-
-// The state after a call of the lanes, which is told.
-fn called<W: Write>(
-    to: &mut W,
-    s: State,
-    verb: u32,
-    n: [u32; 16],
+    state: &mut State,
     content: &[u8],
     pool: &mut [u8],
-) -> io::Result<State> {
-    match verb {
-        FRES => Ok(fresh_start()),
-        OPEN => open(to, s, n, pool),
-        PACK => {
-            let mut packet = [0u8; 65542];
-            let size = put_packet(n, content, &mut packet);
-            send(to, s, n, front(&packet, size), pool)
+) -> io::Result<()> {
+    let n = numbers_of(line);
+    match line.first_chunk() {
+        Some(b"read") => say_reading(to, line),
+        Some(b"walk") => say_walking(to, line),
+        Some(b"writ") => say_writing(to, line, n, content),
+        Some(b"fres") => {
+            *state = fresh_start();
+            Ok(())
         }
-        CLOS => close(to, s, n, pool),
-        FILL => Ok(fill(s, pool)),
-        SOUN => {
-            say_sound(to, s)?;
-            Ok(s)
+        Some(b"open") => open(to, state, n, pool),
+        Some(b"pack") => send(to, state, n, content, pool),
+        Some(b"clos") => close(to, state, n, pool),
+        Some(b"fill") => {
+            fill(state, pool);
+            Ok(())
         }
-        _ => {
-            say_word(to, "unknown")?;
-            Ok(s)
-        }
+        Some(b"soun") => say_sound(to, state),
+        _ => write!(to, " unknown"),
     }
 }
 
-// Runs one line, and answers what is made after it.
+// Runs one line. What only prepares a case prints nothing. What it writes to, reads and lends is handed on one by one: each call below takes another part of it.
 fn run_line<W: Write>(
     to: &mut W,
     line: &[u8],
-    made: Made,
+    made: &mut Made,
     content: &[u8],
     pool: &mut [u8],
-) -> io::Result<Made> {
-    let verb = be32_at(line, 0);
+) -> io::Result<()> {
     let n = numbers_of(line);
-    if is_silent(verb) {
-        return Ok(prepared(made, verb, n));
+    match line.first_chunk() {
+        Some(b"lane") => make_lane(&mut made.state, n),
+        Some(b"mark") => make_mark(&mut made.state, n),
+        Some(b"pool") => made.pool = n[1] as usize,
+        _ => {
+            if !is_passed_over(line) {
+                to.write_all(line)?;
+                to.write_all(b":")?;
+                tell(to, line, &mut made.state, content, lend(pool, made.pool))?;
+                to.write_all(b"\n")?;
+            }
+        }
     }
-    to.write_all(line)?;
-    to.write_all(b":")?;
-    if is_octets(to, line, verb, n, content)? {
-        to.write_all(b"\n")?;
-        return Ok(made);
-    }
-    let state = called(to, made.state, verb, n, content, lend(pool, made.pool))?;
-    to.write_all(b"\n")?;
-    Ok(Made {
-        state,
-        pool: made.pool,
-    })
+    Ok(())
 }
 
 // Runs each line of the text that has an end.
@@ -160,38 +89,20 @@ fn run_lines<W: Write>(to: &mut W, text: &[u8], content: &[u8], pool: &mut [u8])
         state: fresh_start(),
         pool: 16384,
     };
-    let mut start = 0;
-    let mut i = 0;
-    while i < text.len() {
-        if text[i] == b'\n' {
-            made = run_line(to, part(text, start, i), made, content, pool)?;
-            start = i + 1;
+    for piece in text.split_inclusive(|octet| *octet == b'\n') {
+        if let Some(line) = piece.strip_suffix(b"\n") {
+            run_line(to, line, &mut made, content, pool)?;
         }
-        i += 1;
     }
     Ok(())
 }
 
-// Reads until the room is full or the input ends, and answers how many octets came.
-fn read_full<R: Read>(input: &mut R, room: &mut [u8]) -> io::Result<usize>
-    ensures { IfOk result (λ n. n ≤ length room.new) }
-{
-    let mut done = 0;
-    while done < room.len() {
-        let count = input.read(&mut room[done..])?;
-        if count == 0 {
-            break;
-        }
-        done += count;
-    }
-    Ok(done)
-}
-
 fn main(rt: HostRuntime) -> io::Result<()> {
     let mut input = [0u8; 65536];
-    let count = read_full(&mut rt.stdin(), &mut input)?;
+    let room = input.len();
+    let count = io::copy(&mut rt.stdin().take(room as u64), &mut &mut input[..])? as usize;
     // What fills the buffer may go on.
-    if 65535 < count {
+    if room <= count {
         return rt.stdout().write_all(b"too long\n");
     }
     let mut content = [0u8; 65537];

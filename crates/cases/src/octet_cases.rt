@@ -1,132 +1,119 @@
 // Cases about octets: reading and walking packets, and reading records.
-use crate::line::{octets_from, put_octets_from};
-use crate::say::{front, say_five, say_number, say_octets, say_with, say_word};
-use octets::{be32_at, octet_at};
-use packet::Packet;
-use record::{RecordFile, RecordRead};
+use crate::line::{octets_of, rest_of};
+use crate::say::{say_octets, say_refused};
+use packet::{Packet, Unread};
+use record::FileFault;
+use refusal::Refusal;
 use std::io;
 use std::io::Write;
 
 // A refusal of reading, with its place.
-pub(crate) fn say_unread<W: Write>(to: &mut W, number: u8, place: u32) -> io::Result<()> {
-    say_with(to, "refused", number as u64)?;
-    say_number(to, place as u64)
+pub(crate) fn say_unread<W: Write>(to: &mut W, unread: Unread) -> io::Result<()> {
+    let number = u8::from(unread.refusal);
+    let place = unread.place;
+    write!(to, " refused {number} {place}")
 }
 
 // The answer in the order of the reader's fields.
-fn say_packet<W: Write>(to: &mut W, p: Packet) -> io::Result<()> {
-    match p {
-        Packet::Space {
-            packet_type,
-            secondary,
-            apid,
-            flags,
-            count,
-            octets,
-        } => {
-            say_five(
-                to,
-                "space",
-                packet_type as u64,
-                secondary as u64,
-                apid as u64,
-                flags as u64,
-                count as u64,
-            )?;
-            say_number(to, octets as u64)
-        }
-        Packet::Encapsulation {
-            protocol,
-            user,
-            extension,
-            header,
-            octets,
-        } => say_five(
+fn say_packet<W: Write>(to: &mut W, read: Result<Packet, Unread>) -> io::Result<()> {
+    match read {
+        Ok(
+            Packet::Space {
+                packet_type,
+                secondary,
+                apid,
+                flags,
+                count,
+                octets,
+            },
+        ) => write!(
             to,
-            "encap",
-            protocol as u64,
-            user as u64,
-            extension as u64,
-            header as u64,
-            octets as u64,
+            " space {packet_type} {secondary} {apid} {flags} {count} {octets}"
         ),
-        Packet::Refused { number, place } => say_unread(to, number, place),
+        Ok(
+            Packet::Encapsulation {
+                protocol,
+                user,
+                extension,
+                header,
+                octets,
+            },
+        ) => write!(to, " encap {protocol} {user} {extension} {header} {octets}"),
+        Err(unread) => say_unread(to, unread),
     }
 }
 
 fn say_read<W: Write>(to: &mut W, s: &[u8]) -> io::Result<()> {
     say_packet(to, reading::read_packet(s))?;
-    say_word(to, "data")?;
+    write!(to, " data")?;
     say_octets(to, reading::data_of(s))
 }
 
 fn say_walk<W: Write>(to: &mut W, s: &[u8]) -> io::Result<()> {
     let walked = walk::walk(s);
-    say_number(to, walked.at as u64)?;
-    say_number(to, walked.packets as u64)?;
-    say_number(to, walked.refused as u64)?;
-    if walked.refused != 0 {
-        say_number(to, walked.place as u64)?;
+    write!(to, " {} {}", walked.at, walked.packets)?;
+    match walked.stopped {
+        None => write!(to, " 0"),
+        Some(unread) => write!(to, " {} {}", u8::from(unread.refusal), unread.place),
     }
-    Ok(())
 }
 
 pub(crate) fn say_record<W: Write>(to: &mut W, s: &[u8]) -> io::Result<()> {
-    let read = record::read_record(s);
-    match read {
-        RecordRead::Fields(r) => {
-            say_five(
-                to,
-                "record",
-                r.station as u64,
-                r.apid as u64,
-                r.units as u64,
-                r.packets as u64,
-                r.missing as u64,
-            )?;
-            say_number(to, r.broken as u64)
-        }
-        RecordRead::Refused(number) => say_with(to, "refused", number as u64),
+    match record::read_record(s) {
+        Ok(r) => write!(
+            to,
+            " record {} {} {} {} {} {}",
+            r.station, r.apid, r.units, r.packets, r.missing, r.broken
+        ),
+        Err(refusal) => say_refused(to, u8::from(refusal)),
     }
 }
 
 fn say_file<W: Write>(to: &mut W, s: &[u8]) -> io::Result<()> {
-    let file = record::read_record_file(s);
-    match file {
-        RecordFile::Records(n) => say_with(to, "records", n as u64),
-        RecordFile::Impossible(index) => {
-            say_with(to, "refused", 25)?;
-            say_with(to, "at", index as u64)
+    match record::read_record_file(s) {
+        Ok(n) => write!(to, " records {n}"),
+        Err(fault) => {
+            say_refused(to, u8::from(Refusal::from(fault)))?;
+            match fault {
+                FileFault::Impossible(index) => write!(to, " at {index}"),
+                FileFault::Ragged => Ok(()),
+            }
         }
-        RecordFile::Ragged => say_with(to, "refused", 26),
     }
 }
 
-const RECO: u32 = 0x7265636F;
+// What the octets of a line are: those after `read` or `walk`, `read record` or `read records`.
+enum Octets<'a> {
+    Packet(&'a [u8]),
+    Record(&'a [u8]),
+    Records(&'a [u8]),
+}
 
-// Where the octets begin: after `read` or `walk`, `read record` or `read records`.
-fn octets_at(line: &[u8]) -> usize {
-    if be32_at(line, 5) != RECO {
-        5
-    } else if octet_at(line, 11) == b's' {
-        13
-    } else {
-        12
+impl<'a> From<&'a [u8]> for Octets<'a> {
+    fn from(line: &'a [u8]) -> Octets<'a> {
+        let words = rest_of(line, 5);
+        if !words.starts_with(b"reco") {
+            Octets::Packet(words)
+        } else if words.get(6) == Some(&b's') {
+            Octets::Records(rest_of(line, 13))
+        } else {
+            Octets::Record(rest_of(line, 12))
+        }
     }
 }
 
-pub(crate) fn say_reading<W: Write>(to: &mut W, line: &[u8], walks: bool) -> io::Result<()> {
-    let mut room = [0u8; 4096];
-    let at = octets_at(line);
-    put_octets_from(line, at, &mut room);
-    let s = front(&room, octets_from(line, at));
-    if walks {
-        say_walk(to, s)
-    } else if at == 5 {
-        say_read(to, s)
-    } else if at == 12 {
-        say_record(to, s)
-    } else {
-        say_file(to, s)
+pub(crate) fn say_reading<W: Write>(to: &mut W, line: &[u8]) -> io::Result<()> {
+    let mut room = [0; 4096];
+    match Octets::from(line) {
+        Octets::Packet(text) => say_read(to, octets_of(text, &mut room)),
+        Octets::Record(text) => say_record(to, octets_of(text, &mut room)),
+        Octets::Records(text) => say_file(to, octets_of(text, &mut room)),
     }
+}
+
+// Walks them, whatever they are.
+pub(crate) fn say_walking<W: Write>(to: &mut W, line: &[u8]) -> io::Result<()> {
+    let mut room = [0; 4096];
+    let (Octets::Packet(text) | Octets::Record(text) | Octets::Records(text)) = Octets::from(line);
+    say_walk(to, octets_of(text, &mut room))
 }

@@ -1,99 +1,79 @@
 // Cases of writing packets and records: what the writer answered, the front of the output, and its octets around the end of what was written.
-use crate::line::at;
-use crate::say::{front, lend, say_octet, say_octets, say_with, say_word};
+use crate::line::{Numbers, low16, rest_of};
+use crate::say::{front, lend, say_octets, say_refused};
 use octets::octet_at;
-use putting::put_octet;
-use record::{Record, RecordWritten, write_record};
+use record::{Record, write_record};
+use refusal::Refusal;
 use std::io;
 use std::io::Write;
-use writing::{Written, write_encapsulation, write_space};
-
-const ENCA: u32 = 0x656E6361;
-
-const SPAC: u32 = 0x73706163;
+use writing::{write_encapsulation, write_space};
 
 // Content to be written: octet i is i mod 251, so that no two places nearby are alike.
 pub(crate) fn fill_content(content: &mut [u8]) {
-    let mut i = 0;
-    while i < content.len() {
-        put_octet(content, i, (i % 251) as u8);
-        i += 1;
+    for (i, octet) in content.iter_mut().enumerate() {
+        *octet = (i % 251) as u8;
     }
 }
 
-// The first 24 octets of the output, the last of the n that were written, and the next.
+// The first 24 octets of the output, the last of the n that were written, and the next: so the output is whole, and n stands beside it.
 pub(crate) fn say_output<W: Write>(to: &mut W, out: &[u8], n: usize) -> io::Result<()> {
-    say_word(to, "output")?;
+    write!(to, " output")?;
     say_octets(to, front(out, 24))?;
     if n > 0 {
-        say_word(to, "end")?;
-        say_octet(to, octet_at(out, n - 1))?;
-        say_octet(to, octet_at(out, n))?;
+        write!(to, " end")?;
+        say_octets(to, &[octet_at(out, n - 1), octet_at(out, n)])?;
     }
     Ok(())
 }
 
-// The record in the numbers: station, APID, units, packets, missing, broken.
-fn record_of(n: [u32; 16]) -> Record {
+// Each number modulo what its field holds; no From, as of the settings.
+fn record_of(station: u32, apid: u32, tallies: [u32; 4]) -> Record {
+    let [units, packets, missing, broken] = tallies;
     Record {
-        station: (at(n, 2) % 65536) as u16,
-        apid: (at(n, 3) % 65536) as u16,
-        units: at(n, 4),
-        packets: at(n, 5),
-        missing: at(n, 6),
-        broken: at(n, 7),
+        station: low16(station),
+        apid: low16(apid),
+        units,
+        packets,
+        missing,
+        broken,
     }
 }
 
-// The same answer of a packet's writer.
-fn as_packet(written: RecordWritten) -> Written {
-    match written {
-        RecordWritten::Octets(n) => Written::Octets(n),
-        RecordWritten::Refused(number) => Written::Refused(number),
-    }
-}
-
-// The numbers are the writer's fields, then octets of content, then octets of output.
-fn write(what: u32, n: [u32; 16], content: &[u8], out: &mut [u8]) -> Written {
-    if what == ENCA {
-        let data = front(content, at(n, 5) as usize);
-        return write_encapsulation(
-            at(n, 2),
-            at(n, 3),
-            at(n, 4),
-            data,
-            lend(out, at(n, 6) as usize),
-        );
-    }
-    let out = lend(out, at(n, 8) as usize);
-    if what == SPAC {
-        let data = front(content, at(n, 7) as usize);
-        return write_space(at(n, 2), at(n, 3), at(n, 4), at(n, 5), at(n, 6), data, out);
-    }
-    as_packet(write_record(record_of(n), out))
-}
-
-fn say_written<W: Write>(to: &mut W, written: Written, out: &[u8]) -> io::Result<()> {
-    match written {
-        Written::Octets(n) => {
-            say_with(to, "wrote", n as u64)?;
-            say_output(to, out, n)
+// The numbers from the third word on are the writer's fields, then octets of content, then octets of output. What is written is known by its
+// first four letters: `encap`, `space`, or else `record`.
+fn write(what: &[u8], n: Numbers, content: &[u8], out: &mut [u8]) -> Result<usize, Refusal> {
+    let [_, _, a, b, c, d, e, f, g, ..] = n;
+    match what.first_chunk() {
+        Some(b"enca") => {
+            let data = front(content, d as usize);
+            write_encapsulation(a, b, c, data, lend(out, e as usize))
         }
-        Written::Refused(number) => {
-            say_with(to, "refused", number as u64)?;
-            say_output(to, out, 0)
+        Some(b"spac") => {
+            let data = front(content, f as usize);
+            write_space(a, b, c, d, e, data, lend(out, g as usize))
+        }
+        _ => {
+            let record = record_of(a, b, [c, d, e, f]);
+            write_record(record, lend(out, g as usize))
         }
     }
 }
 
-// What is written: `encap`, `space` or `record`, by its first four letters.
 pub(crate) fn say_writing<W: Write>(
     to: &mut W,
-    what: u32,
-    n: [u32; 16],
+    line: &[u8],
+    n: Numbers,
     content: &[u8],
 ) -> io::Result<()> {
-    let mut out = [0xA5u8; 65544];
-    let written = write(what, n, content, &mut out);
-    say_written(to, written, &out)
+    let mut out = [0xA5; 65544];
+    match write(rest_of(line, 6), n, content, &mut out) {
+        Ok(n) => {
+            write!(to, " wrote {n}")?;
+            say_output(to, &out, n)
+        }
+        Err(refusal) => {
+            say_refused(to, u8::from(refusal))?;
+            say_output(to, &out, 0)
+        }
+    }
 }

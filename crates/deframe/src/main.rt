@@ -2,53 +2,18 @@
 // that is open for writing. Where reading or writing fails it says so on standard error, and ends with status 1.
 #![tactic(auto)]
 
-ghost use Rattle.std.specs.Prelude.{◌≤◌, length, IfOk};
+ghost use Rattle.std.specs.Prelude.{◌≤◌, length};
 ghost use Rattle.telling.specs.Lines.{line_room};
 
-use deframing::Progress;
+use ending::{Ending, Failure};
 use std::fs::{File, Files, OpenOptions};
 use std::io::{Read, Write};
-use std::process::ExitCode;
+use std::process::{ExitCode, Termination};
 use std::{fs, io};
-use telling::LINE_ROOM;
+use telling::{LINE_ROOM, Progress};
 
 // Where the packets go, by the name that the system gives descriptor 3.
 const PACKETS: &str = "/proc/self/fd/3";
-
-// Room for one octet more than a frame file has, so that a longer one shows.
-fn file_room() -> [u8; 1048577] {
-    [0; 1048577]
-}
-
-// The buffer that the unfinished piece lives in.
-fn piece_room() -> [u8; 8192] {
-    [0; 8192]
-}
-
-// The most octets of packets that a frame can ask room for.
-fn output_room() -> [u8; 10238] {
-    [0; 10238]
-}
-
-// Some lines of the text at a time.
-fn text_room() -> [u8; 65536] {
-    [0; 65536]
-}
-
-// Reads until the room is full or the input ends, and answers how many octets came.
-fn read_full<R: Read>(input: &mut R, room: &mut [u8]) -> io::Result<usize>
-    ensures { IfOk result (λ n. n ≤ length room.new) }
-{
-    let mut done = 0;
-    while done < room.len() {
-        let count = input.read(&mut room[done..])?;
-        if count == 0 {
-            break;
-        }
-        done += count;
-    }
-    Ok(done)
-}
 
 // An open place for packets. The first file that is opened takes the number of a standard descriptor that is closed, so two others are opened
 // before it, which can't be written.
@@ -70,48 +35,23 @@ fn open_place<R: Files>(rt: &R) -> io::Result<Place<R::File>> {
     })
 }
 
-// Where the packets go, until that fails.
-#[derive(Drop)]
-struct Packets<P> {
-    place: Option<Place<P>>,
-    error: Option<io::Error>,
-}
+// Where the packets go, if anywhere, until that fails.
+type Packets<P> = io::Result<Option<Place<P>>>;
 
 // Opens the place for the packets, to write at its end. Its name is a link that shows whether the descriptor is for writing; who wants no packets
 // leaves it closed.
 fn open_packets<R: Files>(rt: &R) -> Packets<R::File> {
-    let wanted = match fs::symlink_metadata(rt, PACKETS) {
-        Ok(link) => !link.permissions().readonly(),
-        Err(_) => false,
-    };
-    if !wanted {
-        return Packets {
-            place: None,
-            error: None,
-        };
-    }
-    match open_place(rt) {
-        Ok(place) => Packets {
-            place: Some(place),
-            error: None,
-        },
-        Err(error) => Packets {
-            place: None,
-            error: Some(error),
-        },
+    match fs::symlink_metadata(rt, PACKETS) {
+        Ok(link) if !link.permissions().readonly() => open_place(rt).map(Some),
+        _ => Ok(None),
     }
 }
 
-impl<P: Write + Drop> Packets<P> {
-    // Writes the packets of a frame. Where that fails no more are written.
-    fn write(&mut self, packets: &[u8]) {
-        let written = match &mut self.place {
-            Some(place) => place.file.write_all(packets),
-            None => return,
-        };
-        if let Err(error) = written {
-            self.place = None;
-            self.error = Some(error);
+// Writes the packets of a frame. Where that fails no more are written.
+fn write_packets<P: Write + Drop>(to: &mut Packets<P>, packets: &[u8]) {
+    if let Ok(Some(place)) = to {
+        if let Err(error) = place.file.write_all(packets) {
+            *to = Err(error);
         }
     }
 }
@@ -127,21 +67,19 @@ fn deframe<P: Write + Drop, W: Write>(
 ) -> io::Result<()>
     requires { line_room ≤ length text.old }
 {
-    let state = frames::branmuslin_fresh_frames();
     let mut progress = Progress {
         at: 0,
-        frames: 0,
+        calls: 0,
         done: false,
-        state,
+        state: frames::branmuslin_fresh_frames(),
     };
     let mut to = 0;
     while !progress.done {
         let told = deframing::tell_next(file, progress, piece, out, text, to);
-        let octets = told.octets;
-        packets.write(&out[..octets]);
+        write_packets(packets, &out[..told.octets]);
         progress = told.progress;
         to = told.to;
-        if progress.done | (text.len() - to < LINE_ROOM) {
+        if progress.done || text.len() - to < LINE_ROOM {
             output.write_all(&text[..to])?;
             to = 0;
         }
@@ -149,42 +87,35 @@ fn deframe<P: Write + Drop, W: Write>(
     Ok(())
 }
 
-// The status of a program that wrote where nobody reads on, as its shell tells it.
-const UNREAD: u8 = 141;
-
-// Says what failed and why, and answers the status. Where nobody reads on there is nobody to be told.
-fn fail(rt: &impl Eprint, what: &str, error: io::Error) -> ExitCode {
-    if error.kind() == io::ErrorKind::BrokenPipe {
-        return ExitCode::from(UNREAD);
-    }
-    let _ = eprintln!(rt; "{what}: {error}");
-    ExitCode::FAILURE
+// Takes the frames of the file that the input gives. The packets have their place once the file is read. Input and output are two parameters, as in list.
+fn run<F: Files, R: Read, W: Write>(
+    rt: &F,
+    input: &mut R,
+    packets: &mut Packets<F::File>,
+    output: &mut W,
+) -> Result<(), Failure> {
+    // Room for one octet more than a frame file has, so that a longer one shows.
+    let mut file: [u8; 1048577] = Default::default();
+    let room = file.len();
+    let count = io::copy(&mut input.take(room as u64), &mut &mut file[..]).map_err(Failure::Input)?;
+    // The buffer that the unfinished piece lives in.
+    let mut piece: [u8; 8192] = Default::default();
+    // The most octets of packets that a frame can ask room for.
+    let mut out: [u8; 10238] = Default::default();
+    // Some lines of the text at a time.
+    let mut text: [u8; 65536] = Default::default();
+    let read = &file[..room.min(count as usize)];
+    *packets = open_packets(rt);
+    deframe(read, &mut piece, &mut out, &mut text, packets, output).map_err(Failure::Output)
 }
 
+// What failed of the packets is told first. The status is that of the text, if that failed too.
 fn main(rt: HostRuntime) -> ExitCode {
-    let mut file = file_room();
-    let count = match read_full(&mut rt.stdin(), &mut file) {
-        Ok(count) => count,
-        Err(error) => return fail(&rt, "standard input", error),
-    };
-    let mut piece = piece_room();
-    let mut out = output_room();
-    let mut text = text_room();
-    let mut packets = open_packets(&rt);
-    let done = deframe(
-        &file[..count],
-        &mut piece,
-        &mut out,
-        &mut text,
-        &mut packets,
-        &mut rt.stdout(),
-    );
-    let status = match packets.error {
-        None => ExitCode::SUCCESS,
-        Some(error) => fail(&rt, "packets", error),
-    };
+    let mut packets = Ok(None);
+    let done = run(&rt, &mut rt.stdin(), &mut packets, &mut rt.stdout());
+    let status = Ending(packets.map(|_| ()).map_err(Failure::Packets)).report(&rt);
     match done {
         Ok(()) => status,
-        Err(error) => fail(&rt, "standard output", error),
+        failed => Ending(failed).report(&rt),
     }
 }

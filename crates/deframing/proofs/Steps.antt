@@ -6,8 +6,9 @@ use mathlib.Core.List.{List}
 use native.Mathlib.Omega.{arith}
 use borrow.Author.Tests.{eq-eqb, ne_eqb, lt-ltb, le-ltb, leb-true}
 use lib.Dec.{eqb, leb}
-use lib.ListN.{length, take, length-append, length-drop}
-use lib.Seq.{take_all, length-take-le}
+use lib.ListN.{length, take, length-append}
+use lib.Seq.{length-take-le}
+use Rattle.std.proofs.lemmas.List.{take_rest}
 use Rattle.octets.specs.Octets.{be16}
 use Rattle.octets.specs.Output.{put}
 use Rattle.octets.proofs.Order.{either}
@@ -46,7 +47,7 @@ octets_fit state count pointer field buffer out h =
 -- ---- a step that takes a frame of n octets tells this
 abbrev pub told : Standing → Framed → ℕ → ℕ → Told
 told w f n end =
-    record { progress = record { at = w.progress.at + n; frames = w.progress.frames + 1; done = false; state = f.state }; to = end; octets = f.octets }
+    record { progress = record { at = w.progress.at + n; calls = w.progress.calls + 1; done = false; state = f.state }; to = end; octets = f.octets }
 
 module _ (w : Standing) (frame : List ℕ) {f : Framed} {piece out : List ℕ} (h : (f ≡ answer w frame) × ((piece ≡ piece_then w frame) × (out ≡ out_then w frame))) where
   pub packets_fit : length out ≡ length w.out → f.octets ≤ length w.out
@@ -71,7 +72,7 @@ module _ (s : List ℕ) (w : Standing) where
   too_long h = simp (lt-ltb longest (length s) h)
 
   module _ (l : length s ≤ longest) where
-    pub last : frame_size (ahead s w) ≡ 0 → stopping w (last_lines (length s) w.progress.at w.progress.frames w.piece) ≡ step s w
+    pub last : frame_size (ahead s w) ≡ 0 → stopping w (last_lines (length s) w.progress.at w.progress.calls w.piece) ≡ step s w
     unfolding step
     last e = simp (le-ltb longest (length s) l, eq-eqb (frame_size (ahead s w)) 0 e)
 
@@ -79,15 +80,19 @@ module _ (s : List ℕ) (w : Standing) where
     unfolding step
     another n = simp (le-ltb longest (length s) l, ne_eqb (frame_size (ahead s w)) 0 n)
 
-  -- what is left of the file, and the frame in it, as the code lends them
-  pub here : (size : ℕ) → size ≡ frame_size (take (length s - w.progress.at) (ahead s w)) → size ≡ frame_size (ahead s w)
-  here size e = e ∙ ap frame_size (take_all (length s - w.progress.at) (ahead s w) (omega (arith, length-drop w.progress.at s)))
+  -- what is left of the file, as the code lends it, and the frame in it
+  abbrev lent : List ℕ
+  lent = take (length s - w.progress.at) (ahead s w)
 
-  pub lent_length : (size : ℕ) → size ≡ frame_size (ahead s w) → length (take (w.progress.at + size - w.progress.at) (ahead s w)) ≡ size
-  lent_length size e = length-take-le (w.progress.at + size - w.progress.at) (ahead s w) (omega (arith, e, size_fits (ahead s w))) ∙ omega arith
+  pub none_here : frame_size lent ≡ 0 → frame_size (ahead s w) ≡ 0
+  none_here e = ap frame_size (sym (take_rest s w.progress.at)) ∙ e
 
-  pub lent : (size : ℕ) → size ≡ frame_size (ahead s w) → take (w.progress.at + size - w.progress.at) (ahead s w) ≡ take (frame_size (ahead s w)) (ahead s w)
-  lent size e = let same : w.progress.at + size - w.progress.at ≡ frame_size (ahead s w) = omega (arith, e) in rw same
+  module _ {frame : List ℕ} (h : (frame ≡ take (frame_size lent) lent) × (frame_size lent ≡ 0 → ⊥)) where
+    pub here : (frame ≡ take (frame_size (ahead s w)) (ahead s w)) × (frame_size (ahead s w) ≡ 0 → ⊥)
+    here = rw (take_rest s w.progress.at) at h
+
+    pub here_length : length frame ≡ frame_size (ahead s w)
+    here_length = ap length here.0 ∙ length-take-le (frame_size (ahead s w)) (ahead s w) (size_fits (ahead s w))
 
 -- the same step, by another name
 pub the_same : {x y : Step} (d : List ℕ) (to : ℕ) {r : Told} {piece out text : List ℕ} → x ≡ y → Stepped x d to r piece out text → Stepped y d to r piece out text

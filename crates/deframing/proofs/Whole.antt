@@ -15,19 +15,20 @@ use Rattle.telling.specs.Lines.{end_line, last_lines, line_room}
 use Rattle.telling.proofs.Ready.{Going, goes, is_ready_lem}
 use Rattle.deframing.specs.File.{frame_size}
 use Rattle.deframing.specs.Run.{Standing, Step, longest, idle, stopping, taking, ahead, step, over, steps_left, from, at_start, text_of, packets_of, frames_text, frames_packets, is_ready, step_if}
-use Rattle.deframing.specs.declared.Progress.{Progress}
+use Rattle.frames.specs.declared.Frames.{Frames}
+use Rattle.telling.specs.declared.Progress.{Progress}
 use Rattle.deframing.proofs.Steps.{size_fits, head_fits, too_long, last, another}
 
 -- what every standing of a file is: no more frames than octets of frames, and no more of these than octets
 abbrev pub Possible : List ℕ → Standing → Type 0
-Possible s w = (w.progress.frames ≤ w.progress.at) × (w.progress.at ≤ length s)
+Possible s w = (w.progress.calls ≤ w.progress.at) × (w.progress.at ≤ length s)
 
 -- it has less and less before it
-abbrev pub before : ℕ → Progress → ℕ
+abbrev pub before : ℕ → Progress Frames → ℕ
 before n p = cond p.done 0 (suc (n - p.at))
 
 -- ---- one step
-module _ (s : List ℕ) (w : Standing) (g : Going w.progress.done w.progress.frames w.progress.at (length s)) where
+module _ (s : List ℕ) (w : Standing) (g : Going w.progress.done w.progress.calls w.progress.at (length s)) where
   -- it ends the text, or takes a frame that lies within the file
   which : {A : Type 0} → ((t : List ℕ) → step s w ≡ stopping w t → A)
       → ((frame : List ℕ) → step s w ≡ taking w frame → 0 < length frame → w.progress.at + length frame ≤ length s → A) → A
@@ -49,7 +50,7 @@ module _ (s : List ℕ) (w : Standing) (g : Going w.progress.done w.progress.fra
   stays = which (λ t e. rw e (g.counted, g.inside)) (λ frame e some within. rw e (omega (arith, g.counted, some), within))
 
   -- the steps that are left after it, where the file isn't done, are one fewer
-  fewer : {A : Type 0} (f : ℕ → A) → ((step s w).after.progress.done ≡ true → (m k : ℕ) → f m ≡ f k) → f (length s - w.progress.frames) ≡ f (steps_left s (step s w).after)
+  fewer : {A : Type 0} (f : ℕ → A) → ((step s w).after.progress.done ≡ true → (m k : ℕ) → f m ≡ f k) → f (length s - w.progress.calls) ≡ f (steps_left s (step s w).after)
   unfolding taking
   fewer f same =
       which (λ t e. same (rw e) _ _)
@@ -57,7 +58,7 @@ module _ (s : List ℕ) (w : Standing) (g : Going w.progress.done w.progress.fra
 
 -- ---- a step leads on, where there is room for it
 module _ (s : List ℕ) (room to : ℕ) (w : Standing) (p : Possible s w) (u : w.progress.done ≡ false) (h : to + line_room ≤ room) where
-  going : Going w.progress.done w.progress.frames w.progress.at (length s)
+  going : Going w.progress.done w.progress.calls w.progress.at (length s)
   going = record { undone = u; counted = p.0; inside = p.1 }
 
   the_step : step_if s room to w ≡ step s w
@@ -81,7 +82,7 @@ module _ (part : Step → List ℕ) (quiet : (w : Standing) → part (idle w) �
   done_over w e zero = refl
   done_over w e (suc most) = simp e
 
-  step_whole : (w : Standing) → Going w.progress.done w.progress.frames w.progress.at (length s) → from part s w ≡ part (step s w) ++ from part s (step s w).after
+  step_whole : (w : Standing) → Going w.progress.done w.progress.calls w.progress.at (length s) → from part s w ≡ part (step s w) ++ from part s (step s w).after
   unfolding from over
   step_whole w g =
       simp g.undone
@@ -121,7 +122,7 @@ module _ {s : List ℕ} where
   steps_yield c = steps_give packets_of (λ w. refl) s c
 
 -- ---- a file that is too long has the one line and no packets, and an empty one the last line
-going_at_start : (s : List ℕ) → Going at_start.progress.done at_start.progress.frames at_start.progress.at (length s)
+going_at_start : (s : List ℕ) → Going at_start.progress.done at_start.progress.calls at_start.progress.at (length s)
 unfolding at_start
 going_at_start s = record { undone = refl; counted = omega arith; inside = omega arith }
 

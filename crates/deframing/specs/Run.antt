@@ -10,31 +10,35 @@ use Rattle.frames.specs.Frames.{buffer_octets, output_octets, refused_kind, repe
 use Rattle.frames.specs.declared.Framed.{Framed}
 use Rattle.deframing.specs.File.{frame_size, count_in, pointer_in, field_in}
 use Rattle.deframing.specs.Start.{start}
-use Rattle.deframing.specs.declared.Progress.{Progress}
+use Rattle.frames.specs.declared.Frames.{Frames}
+use Rattle.telling.specs.declared.Progress.{Progress}
 use Rattle.deframing.specs.declared.Told.{Told}
 
 -- ---- the line of a frame, with its answer and the output after it: `refused` gives the number of the refusal; `taken` gives the packets, their octets, 0 or 1 for a
 -- piece that was given up and for a rest that was dropped, and the Adler-32 of the packets, which are at the front of the output
+abbrev pub taken_numbers : Framed → List ℕ → List ℕ
+taken_numbers f out = f.packets ∷ f.octets ∷ one f.given_up ∷ one f.dropped ∷ adler (take f.octets out) ∷ []
+
 unfoldable pub frame_line : ℕ → ℕ → Framed → List ℕ → List ℕ
 frame_line at count f out =
     let told = line at (ascii " frame") count in
-    first (told (ascii " taken") (f.packets ∷ f.octets ∷ one f.given_up ∷ one f.dropped ∷ adler (take f.octets out) ∷ []))
+    first (told (ascii " taken") (taken_numbers f out))
     ((eqb f.kind refused_kind gives told (ascii " refused") (f.refusal ∷ []))
     ∷ (eqb f.kind repeat_kind gives told (ascii " repeat") [])
     ∷ [])
 
 -- ---- where the file stands: how far it is, with the state of its frames, and then the lent buffer and the output
 pub record Standing : Type 0 where
-  pub progress : Progress
+  pub progress : Progress Frames
   pub piece : List ℕ
   pub out : List ℕ
 
-abbrev pub standing : Progress → List ℕ → List ℕ → Standing
+abbrev pub standing : Progress Frames → List ℕ → List ℕ → Standing
 standing p piece out = record { progress = p; piece = piece; out = out }
 
 -- the same progress, with nothing left to tell
-abbrev pub finished : Progress → Progress
-finished p = record { at = p.at; frames = p.frames; done = true; state = p.state }
+abbrev pub finished : Progress Frames → Progress Frames
+finished p = record { at = p.at; calls = p.calls; done = true; state = p.state }
 
 -- a frame file has at most 1,048,576 octets
 abbrev pub longest : ℕ
@@ -69,7 +73,7 @@ module _ (w : Standing) (frame : List ℕ) where
       record {
         after =
             standing
-            (record { at = w.progress.at + length frame; frames = w.progress.frames + 1; done = false; state = answer.state })
+            (record { at = w.progress.at + length frame; calls = w.progress.calls + 1; done = false; state = answer.state })
             piece_then
             out_then;
         text = frame_line w.progress.at (count_in frame) answer out_then;
@@ -85,7 +89,7 @@ module _ (s : List ℕ) (w : Standing) where
   step =
       first (taking w (take (frame_size ahead) ahead))
       ((ltb longest (length s) gives stopping w (ascii "too long\n"))
-      ∷ (eqb (frame_size ahead) 0 gives stopping w (last_lines (length s) w.progress.at w.progress.frames w.piece))
+      ∷ (eqb (frame_size ahead) 0 gives stopping w (last_lines (length s) w.progress.at w.progress.calls w.piece))
       ∷ [])
 
 -- ---- the whole: what each step gives, joined, over at most `most` steps
@@ -95,7 +99,7 @@ over part (suc most) s w = cond w.progress.done [] (part (step s w) ++ over part
 
 -- each frame has an octet at least, so there are no more frames than octets; then comes the last step
 abbrev pub steps_left : List ℕ → Standing → ℕ
-steps_left s w = suc (length s - w.progress.frames)
+steps_left s w = suc (length s - w.progress.calls)
 
 unfoldable pub from : (Step → List ℕ) → List ℕ → Standing → List ℕ
 from part s w = over part (steps_left s w) s w
@@ -118,8 +122,8 @@ unfoldable pub frames_packets : List ℕ → List ℕ
 frames_packets s = from packets_of s at_start
 
 -- ---- a step whose text goes to index `to` of so much room, where it can be taken
-abbrev pub is_ready : ℕ → ℕ → ℕ → Progress → Bool
-is_ready n room to p = ready p.done p.frames p.at n to room
+abbrev pub is_ready : ℕ → ℕ → ℕ → Progress Frames → Bool
+is_ready n room to p = ready p.done p.calls p.at n to room
 
 unfoldable pub step_if : List ℕ → ℕ → ℕ → Standing → Step
 step_if s room to w = cond (is_ready (length s) room to w.progress) (step s w) (idle w)

@@ -3,7 +3,7 @@
 
 mod lines;
 
-ghost use Rattle.std.specs.Prelude.{◌≡◌, true, ◌+◌, ◌≤◌, length};
+ghost use Rattle.std.specs.Prelude.{◌≡◌, ◌≢◌, true, ◌+◌, ◌≤◌, length, take, MatchOption};
 ghost use Rattle.octets.specs.Output.{put as puts};
 ghost use Rattle.frames.specs.Frames.{framed, buffer_after, out_after};
 ghost use Rattle.deframing.specs.File.{head_octets, frame_size, count_in, pointer_in, field_in};
@@ -13,23 +13,13 @@ ghost use Rattle.telling.specs.Lines.{line_room};
 use frames::{Framed, Frames, branmuslin_take_frame};
 use lines::put_frame;
 use octets::be16_at;
-use telling::{is_ready, put_last};
+use telling::{Progress, is_ready, put_last};
 use text::put;
-
-// Where a frame file stands: the octets of whole frames behind it, their number, whether its text is whole, and the state of its frames. It begins with 0, 0, no, and
-// the fresh state.
-#[derive(Clone, Copy)]
-pub struct Progress {
-    pub at: usize,
-    pub frames: usize,
-    pub done: bool,
-    pub state: Frames,
-}
 
 // What a step leaves: where the file stands, the index after the text, and the octets of the packets at the front of the output.
 #[derive(Clone, Copy)]
 pub struct Told {
-    pub progress: Progress,
+    pub progress: Progress<Frames>,
     pub to: usize,
     pub octets: usize,
 }
@@ -40,69 +30,60 @@ const LONGEST: usize = 1048576;
 // The octets of a frame before its field: count, pointer and length.
 const HEAD: usize = 6;
 
-// The octets of the frame at the front of s, or 0 where it is cut off.
-fn frame_size(s: &[u8]) -> usize
-    ensures { result ≡ frame_size s.now }
+// The frame at the front of s, unless it is cut off.
+fn frame_in(s: &[u8]) -> Option<&[u8]>
+    ensures { MatchOption result (frame_size s.now ≡ 0) (λ frame. (frame.now ≡ take (frame_size s.now) s.now) × (frame_size s.now ≢ 0)) }
 {
-    let size = HEAD + be16_at(s, 4) as usize;
-    if size <= s.len() { size } else { 0 }
+    s.get(..HEAD + usize::from(be16_at(s, 4)))
 }
 
-// Takes a whole frame of a frame file.
+// Takes a whole frame of a frame file. State, piece and output are those of the function that C calls too.
 fn take_whole(state: Frames, frame: &[u8], piece: &mut [u8], out: &mut [u8]) -> Framed
     requires { head_octets ≤ length frame.now }
     ensures value { result ≡ framed state (count_in frame.now) (pointer_in frame.now) (field_in frame.now) piece.old (length out.old) }
     ensures piece_after { piece.new ≡ buffer_after state (count_in frame.now) (pointer_in frame.now) (field_in frame.now) piece.old (length out.old) }
     ensures out_after { out.new ≡ out_after state (count_in frame.now) (pointer_in frame.now) (field_in frame.now) piece.old out.old }
 {
-    let count = be16_at(frame, 0) as u32;
-    let pointer = be16_at(frame, 2) as u32;
+    let count = u32::from(be16_at(frame, 0));
+    let pointer = u32::from(be16_at(frame, 2));
     branmuslin_take_frame(state, count, pointer, &frame[HEAD..], piece, out)
 }
 
 // A step that takes a whole frame.
 fn tell_frame(
     frame: &[u8],
-    progress: Progress,
+    progress: Progress<Frames>,
     piece: &mut [u8],
     out: &mut [u8],
     text: &mut [u8],
     to: usize,
 ) -> Told
-    requires head_octets_in_bounds { (head_octets ≤ length frame.now) × (progress.at + length frame.now ≤ longest) × (progress.frames ≤ progress.at) }
+    requires head_octets_in_bounds { (head_octets ≤ length frame.now) × (progress.at + length frame.now ≤ longest) × (progress.calls ≤ progress.at) }
     requires line_room_in_bounds { to + line_room ≤ length text.old }
     ensures stepped { Stepped (taking (standing progress piece.old out.old) frame.now) text.old to result piece.new out.new text.new }
     ensures octets_in_bounds { (result.octets ≤ length out.old) × (result.to ≤ length text.old) }
 {
-    let before = progress.state;
-    let framed = take_whole(before, frame, piece, out);
+    let framed = take_whole(progress.state, frame, piece, out);
     let at = progress.at;
     let end = put_frame(text, to, at, be16_at(frame, 0), framed, out);
-    let state = framed.state;
     Told {
         progress: Progress {
             at: at + frame.len(),
-            frames: progress.frames + 1,
+            calls: progress.calls + 1,
             done: false,
-            state,
+            state: framed.state,
         },
         to: end,
         octets: framed.octets,
     }
 }
 
-// A step that ends the text.
-fn stopped(p: Progress, to: usize) -> Told
+// A step that ends the text. What it shares with the end of a run of calls is `..p`: each puts it into a struct of its own.
+fn stopped(p: Progress<Frames>, to: usize) -> Told
     ensures { (result.progress ≡ finished p) × (result.to ≡ to) × (result.octets ≡ 0) }
 {
-    let state = p.state;
     Told {
-        progress: Progress {
-            at: p.at,
-            frames: p.frames,
-            done: true,
-            state,
-        },
+        progress: Progress { done: true, ..p },
         to,
         octets: 0,
     }
@@ -111,7 +92,7 @@ fn stopped(p: Progress, to: usize) -> Told
 // Takes a step that there is room for.
 fn take_step(
     file: &[u8],
-    progress: Progress,
+    progress: Progress<Frames>,
     piece: &mut [u8],
     out: &mut [u8],
     text: &mut [u8],
@@ -126,20 +107,21 @@ fn take_step(
         return stopped(progress, end);
     }
     let at = progress.at;
-    let size = frame_size(&file[at..]);
-    if size == 0 {
-        let end = put_last(text, to, file.len(), at, progress.frames, piece);
-        return stopped(progress, end);
+    match frame_in(&file[at..]) {
+        Some(frame) => tell_frame(frame, progress, piece, out, text, to),
+        None => {
+            let end = put_last(text, to, file.len(), at, progress.calls, piece);
+            stopped(progress, end)
+        }
     }
-    let end = at + size;
-    tell_frame(&file[at..end], progress, piece, out, text, to)
 }
 
 // The next step of a frame file: a frame, or the end. Its text is put into text from index `to` on, and its packets are at the front of out. The file goes on where
 // `progress` stands, with piece and out as the last step left them. Where no step is left, or there is no room for its text, nothing is done: `to` stays.
+// The place stands beside the text, and the rooms beside the progress, since a step tells the one and leaves the others lent (the clauses of `told_of` and `step_if`).
 pub fn tell_next(
     file: &[u8],
-    progress: Progress,
+    progress: Progress<Frames>,
     piece: &mut [u8],
     out: &mut [u8],
     text: &mut [u8],
@@ -153,7 +135,7 @@ pub fn tell_next(
 {
     if !is_ready(
         progress.done,
-        progress.frames,
+        progress.calls,
         progress.at,
         file.len(),
         to,

@@ -1,49 +1,42 @@
-// The line of a frame, put into a lent text at a place.
-ghost use Rattle.std.specs.Prelude.{[], ◌∷◌, ◌+◌, ◌≤◌, length, take};
+// The line of a frame, put into a lent text at a place. As in the crate text every function cuts what it puts where the text ends, and text and place are handed on one by one.
+ghost use Rattle.std.specs.Prelude.{[], ◌∷◌, ◌≡◌, ◌≤◌, length, take};
 ghost use Rattle.octets.specs.Octets.{one};
 ghost use Rattle.text.specs.Text.{ascii};
+ghost use Rattle.text.specs.Written.{reached, written};
 ghost use Rattle.adler.specs.Adler.{adler};
-ghost use Rattle.telling.specs.Lines.{line, line_room, Lined};
-ghost use Rattle.deframing.specs.Run.{frame_line};
+ghost use Rattle.telling.specs.Lines.{line, line_room};
+ghost use Rattle.deframing.specs.Run.{taken_numbers, frame_line};
 
 use adler::adler32;
-use frames::Framed;
-use numbers::one_if;
+use frames::{Framed, Kind};
 use telling::put_line;
 
-// What a frame is answered.
-const REFUSED: u8 = 0;
-
-const REPEAT: u8 = 1;
-
-// Puts the line of the frame at index at, with a word on what came of it, and numbers.
+// Puts the line of the frame at index at, with a word on what came of it, and numbers. What it shares with the lines of other runs is `put_line`, which it gives its own
+// word, that of a frame.
 fn put_word(text: &mut [u8], to: usize, at: usize, count: u16, word: &[u8], ns: &[u64]) -> usize
-    requires { (length word.now ≤ 8) × (length ns.now ≤ 6) × (to + line_room ≤ length text.old) }
-    ensures { Lined text.old to (line at (ascii " frame") count word.now ns.now) text.new result }
+    requires { (length word.now ≤ 8) × (length ns.now ≤ 6) }
+    ensures value { result ≡ reached (length text.old) to (line at (ascii " frame") count word.now ns.now) }
+    ensures text_after { text.new ≡ written text.old to (line at (ascii " frame") count word.now ns.now) }
+    ensures short { length (line at (ascii " frame") count word.now ns.now) ≤ line_room }
 {
-    put_line(text, to, at, b" frame", count as u64, word, ns)
+    put_line(text, to, at, b" frame", u64::from(count), word, ns)
 }
 
-// Puts the line of a frame that was taken.
-fn put_taken(text: &mut [u8], to: usize, at: usize, count: u16, framed: Framed, out: &[u8]) -> usize
-    requires { (framed.octets ≤ length out.now) × (to + line_room ≤ length text.old) }
-    ensures { Lined text.old to (line at (ascii " frame") count (ascii " taken") (framed.packets ∷ framed.octets ∷ one framed.given_up ∷ one framed.dropped ∷ adler (take framed.octets out.now) ∷ [])) text.new result }
+// The numbers of a frame that was taken.
+fn taken_numbers(framed: Framed, out: &[u8]) -> [u64; 5]
+    requires { framed.octets ≤ length out.now }
+    ensures { result ≡ taken_numbers framed out.now }
 {
-    let octets = framed.octets;
-    let given_up = one_if(framed.given_up);
-    let dropped = one_if(framed.dropped);
-    let sum = adler32(&out[..octets]);
-    let ns = [
+    [
         framed.packets as u64,
-        octets as u64,
-        given_up,
-        dropped,
-        sum as u64,
-    ];
-    put_word(text, to, at, count, b" taken", &ns)
+        framed.octets as u64,
+        u64::from(framed.given_up),
+        u64::from(framed.dropped),
+        u64::from(adler32(&out[..framed.octets])),
+    ]
 }
 
-// Puts the line of a frame; out is the output after it.
+// Puts the line of a frame; out is the output after it. Its kind is a number, since `Framed` is a struct of C's, and a pattern can't be `Kind::Refused as u8`.
 pub(crate) fn put_frame(
     text: &mut [u8],
     to: usize,
@@ -52,14 +45,23 @@ pub(crate) fn put_frame(
     framed: Framed,
     out: &[u8],
 ) -> usize
-    requires { (framed.octets ≤ length out.now) × (to + line_room ≤ length text.old) }
-    ensures { Lined text.old to (frame_line at count framed out.now) text.new result }
+    requires { framed.octets ≤ length out.now }
+    ensures value { result ≡ reached (length text.old) to (frame_line at count framed out.now) }
+    ensures text_after { text.new ≡ written text.old to (frame_line at count framed out.now) }
+    ensures short { length (frame_line at count framed out.now) ≤ line_room }
 {
-    if framed.kind == REFUSED {
-        return put_word(text, to, at, count, b" refused", &[framed.refusal as u64]);
+    if framed.kind == Kind::Refused as u8 {
+        return put_word(
+            text,
+            to,
+            at,
+            count,
+            b" refused",
+            &[u64::from(framed.refusal)],
+        );
     }
-    if framed.kind == REPEAT {
+    if framed.kind == Kind::Repeat as u8 {
         return put_word(text, to, at, count, b" repeat", &[]);
     }
-    put_taken(text, to, at, count, framed, out)
+    put_word(text, to, at, count, b" taken", &taken_numbers(framed, out))
 }

@@ -9,6 +9,7 @@ use borrow.Author.Tests.{eqb-true, eq-eqb, le-ltb, lt-ltb, lt-leb}
 use lib.Dec.{eqb}
 use lib.ListN.{length, get_or, set}
 use lib.Seq.{get_or-set_other}
+use Rattle.std.specs.Prelude.{Ok}
 use Rattle.octets.proofs.Order.{either, both}
 use Rattle.packet.specs.Space.{flags, count}
 use Rattle.reading.specs.Reading.{refusal}
@@ -18,7 +19,7 @@ use Rattle.pool.specs.Octets.{place, stored}
 use Rattle.marks.specs.Matching.{is_free}
 use Rattle.lane.specs.declared.Lane.{Lane}
 use Rattle.grouping.specs.declared.Added.{Added}
-use Rattle.grouping.specs.declared.Step.{Step}
+use Rattle.grouping.specs.Steps.{Outcome}
 use Rattle.grouping.specs.declared.Step.TheVariants.{Hold}
 use Rattle.lane.specs.Lane.{held, holding, closed}
 use Rattle.grouping.specs.Packets.{terms_of, fault, user_octets}
@@ -60,7 +61,7 @@ stored_elsewhere marks i pool k (d ∷ ds) at other =
     ∙ get_or-set_other pool (place marks i k) at d 0 (λ e. other k (omega arith) (omega arith) (sym e))
 
 module _ (s : State) (i : ℕ) (p pool : List ℕ) (at octets room : ℕ) where
-  step_stays : {d : Step} → Stepped s i p octets room d
+  step_stays : {d : Outcome} → Stepped s i p octets room d
       → ((k : ℕ) → k < (lane_after (lane_at s i) d).octets → place (marks_after s.marks i (lane_at s i) d) i k ≡ at → ⊥)
       → get_or (pool_after s.marks i (lane_at s i) d (user_of s i p) pool) at 0 ≡ get_or pool at 0
   unfolding pool_after marks_after lane_after
@@ -91,8 +92,8 @@ module _ (ls : List Lane) (i : ℕ) (p : List ℕ) (room : ℕ) where
   own = get_or ls i closed
 
   -- the step holds n octets
-  abbrev HoldsThen : ℕ → Step → Type 0
-  HoldsThen n d = (a : Added) × ((on : Bool) × (d ≡ Hold a on n))
+  abbrev HoldsThen : ℕ → Outcome → Type 0
+  HoldsThen n d = (a : Added) × ((on : Bool) × (d ≡ Ok (Hold a on n)))
 
   fits_then : (a : Added) (on : Bool) (n : ℕ) → blocks_for n ≤ own.settings.cap → within (set ls i (holding own n)) ≡ true → HoldsThen n (settle ls i (hold_plan own.settings a on n))
   unfolding hold_plan settle
@@ -122,8 +123,8 @@ used x k size b j p out block block_is_free (open', sound, few, fits) new (most,
     let s : State = x.state in
     let w : ℕ = would_hold (lane_at s j) p in
     let h = holds_then s.lanes j p (length out) open' sound new few most beside (omega (arith, due)) in
-    let step : step_for x j p out ≡ Hold h.0 h.1.0 (would_group (lane_at s j) p) = settled x k size j p out ∙ h.1.1 in
-    let told : reply x (takes j p out) ≡ to_packet (Held h.0.missing h.0.given_up) out = took_reply x j p out ∙ rw step in
+    let step : step_for x j p out ≡ Ok (Hold h.0 h.1.0 (would_group (lane_at s j) p)) = settled x k size j p out ∙ h.1.1 in
+    let told : reply x (takes j p out) ≡ to_packet (Ok (Held h.0.missing h.0.given_up)) out = took_reply x j p out ∙ rw step in
     let holds' : held (lane_at (after x (takes j p out)).state j) ≡ w = rw (lane_after_lem x k size j p out, step) refl in
     let lowest = lowest_at x k j p out out h.0.missing h.0.given_up b block told in
     let seen : is_free (get_or (marks_for s j p) b 0) ≡ true = eq-eqb (get_or (marks_for s j p) b 0) free block_is_free in

@@ -16,9 +16,11 @@ use Rattle.marks.specs.Blocks.{blocks_for}
 use Rattle.pool.specs.Octets.{gathered}
 use Rattle.lane.specs.declared.Settings.{Settings}
 use Rattle.lane.specs.declared.Lane.{Lane}
-use Rattle.grouping.specs.declared.Step.{Step}
+use Rattle.grouping.specs.Steps.{Outcome}
 use Rattle.grouping.specs.declared.Step.TheVariants.{Hold}
 use Rattle.grouping.specs.declared.Plan.{Plan}
+use Rattle.grouping.specs.declared.Refused.{Refused}
+use Rattle.std.specs.Prelude.{Result, Ok}
 use Rattle.lane.specs.Lane.{closed, illegal, credit_of, holding}
 use Rattle.grouping.specs.Packets.{user_data}
 use Rattle.grouping.specs.Plans.{packet_plan}
@@ -62,7 +64,7 @@ module _ (xs ys : List Lane) (i : ℕ) (same : get_or xs i closed ≡ get_or ys 
   abbrev theirs : Lane
   theirs = get_or ys i closed
 
-  same_step : (p : List ℕ) (room : ℕ) {d : Plan} → Planned theirs p room d → InShare (lane_after theirs (settle ys i d)) → settle xs i d ≡ settle ys i d
+  same_step : (p : List ℕ) (room : ℕ) {d : Result Plan Refused} → Planned theirs p room d → InShare (lane_after theirs (settle ys i d)) → settle xs i d ≡ settle ys i d
   unfolding settle lane_after
   same_step p room (refuses n h) w = refl
   same_step p room (unread u) w = refl
@@ -70,7 +72,7 @@ module _ (xs ys : List Lane) (i : ℕ) (same : get_or xs i closed ≡ get_or ys 
   same_step p room (strays a on f g) w = refl
   same_step p room (ends a on n op f g e h) w = refl
   same_step p room (holds a on n op f g e h) w =
-      let good = is_fine (lane_after theirs (Hold a on n)) g in
+      let good = is_fine (lane_after theirs (Ok (Hold a on n))) g in
       let small : i < 8 = opened_small ys eight i op in
       let alone : within (set ys i (holding theirs n)) ≡ true =
       alone_fits ys i none (omega (arith, small, eight)) (holding theirs n) (omega (arith, need_open (holding theirs n) op, good.within, (good.legal op).share, (good.legal op).cap)) in
@@ -110,9 +112,9 @@ module _ (i : ℕ) (x y : Handed) (k : Alike i x y) where
     taken_together : InShare (lane_at (after y (takes i p out)).state i) → Together (takes i p out)
     taken_together w =
         let d : step_for x i p out ≡ step_for y i p out = same_decision w in
-        let told : Slot → Step → Reply = λ v e. to_packet (answer_of e) (out_from v.group (user_data v.lane.settings p) e out) in (
+        let told : Slot → Outcome → Reply = λ v e. to_packet (answer_of e) (out_from v.group (user_data v.lane.settings p) e out) in (
           took_reply x i p out ∙ ap₂ told k.slot d ∙ sym (took_reply y i p out),
-          took_slot x k.shared k.size i p out ∙ ap₂ (λ (v : Slot) (e : Step). slot_after v p e) k.slot d ∙ sym (took_slot y k.alone k.size_alone i p out),
+          took_slot x k.shared k.size i p out ∙ ap₂ (λ (v : Slot) (e : Outcome). slot_after v p e) k.slot d ∙ sym (took_slot y k.alone k.size_alone i p out),
         )
 
   module _ (settings : Settings) where

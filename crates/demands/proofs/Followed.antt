@@ -9,6 +9,13 @@ use native.Mathlib.Omega.{arith}
 use borrow.Author.Tests.{eqb-true, eqb-false, ne_eqb, le-leb, lt-leb}
 use lib.Dec.{eqb}
 use lib.ListN.{length, get_or}
+use Rattle.std.specs.Prelude.{Ok, Err}
+use Rattle.refusal.specs.Refusal.{number, named}
+use Rattle.refusal.specs.declared.Refusal.{Refusal}
+use Rattle.refusal.proofs.Named.{of_its_number}
+use Rattle.refusal.proofs.Numbers.{of_its_name}
+use Rattle.grouping.specs.declared.Refused.TheVariants.{Unread, Untaken}
+use Rattle.grouping.specs.Plans as plans
 use Rattle.octets.specs.Octets.{one}
 use Rattle.octets.specs.Order.{first, numbers_of}
 use Rattle.octets.specs.Output.{leading, unless_refused, put, output_after}
@@ -21,7 +28,7 @@ use Rattle.lane.specs.declared.Settings.{Settings}
 use Rattle.lane.specs.declared.Lane.{Lane}
 use Rattle.lane.specs.Lane.{closed, credit_of}
 use Rattle.lane.proofs.Fine.{is_fine}
-use Rattle.grouping.specs.declared.Step.{Step}
+use Rattle.grouping.specs.Steps.{Outcome}
 use Rattle.grouping.specs.declared.Step.TheVariants as step
 use Rattle.grouping.specs.Packets.{user_data}
 use Rattle.grouping.specs.Plans.{packet_plan}
@@ -80,30 +87,31 @@ module _ (past : Past) (i refusal : ℕ) where
 
 -- ---- a packet
 -- what the rule's word tells: no refusal, and Unit where it makes a unit
-word_tells : (u g : Option (List ℕ)) (m : ℕ) (givenUp : Bool) → (leading (told (answer_with u g m givenUp)) ≡ 0) × (eqb (kind_of (answer_with u g m givenUp)) unit_kind ≡ present u)
+word_tells : (u g : Option (List ℕ)) (m : ℕ) (givenUp : Bool) → (leading (told (Ok (answer_with u g m givenUp))) ≡ 0) × (eqb (kind_of (Ok (answer_with u g m givenUp))) unit_kind ≡ present u)
 word_tells (some octets) g m givenUp = (refl, refl)
 word_tells none (some octets) m givenUp = (refl, refl)
 word_tells none none m givenUp = (refl, refl)
 
 -- what is replied after the step d
-abbrev reply_after : Past → List ℕ → List ℕ → Step → Reply
+abbrev reply_after : Past → List ℕ → List ℕ → Outcome → Reply
 reply_after past p out d = to_packet (answer_of d) (out_from (octets_in (group (accepted_in past))) (user_data (lane_from past).settings p) d out)
 
-abbrev Steps : Past → ℕ → List ℕ → List ℕ → Step → Type 0
+abbrev Steps : Past → ℕ → List ℕ → List ℕ → Outcome → Type 0
 Steps past i p out d = Follows past (takes i p out) (slot_after (slot_from past) p d) (reply_after past p out d)
 
-refused_follows : (past : Past) (i : ℕ) (p out : List ℕ) (k : ℕ) → 8 ≤ k → Steps past i p out (step.Refuse k)
+refused_follows : (past : Past) (i : ℕ) (p out : List ℕ) (r : Refusal) → 8 ≤ number r → Steps past i p out (Err (Untaken r))
 unfolding lane_after one
-refused_follows past i p out k high =
-    let e = ne_eqb k 0 (λ z. omega arith) in
-    record { slot = simp e; word = simp (e, lt-leb k 7 (omega arith)); told = simp e (omega arith) }
+refused_follows past i p out r high =
+    let e = ne_eqb (number r) 0 (λ z. omega arith) in
+    record { slot = simp e; word = simp (e, lt-leb (number r) 7 (omega arith), of_its_number r); told = simp e (omega arith) }
 
 -- the reader's number is one of 1 to 7, and its place the one that belongs to it
-unread_follows : (past : Past) (i : ℕ) (p out : List ℕ) → (refusal p ≡ 0 → ⊥) → Steps past i p out (step.Unread (refusal p) (place p))
+unread_follows : (past : Past) (i : ℕ) (p out : List ℕ) → (refusal p ≡ 0 → ⊥) → Steps past i p out (Err (Unread (plans.unread p)))
 unfolding lane_after one place
 unread_follows past i p out some' =
+    let n = of_its_name (refusal p) (omega (arith, some')) (omega (arith, refusal_most p)) in
     let e = ne_eqb (refusal p) 0 some' in
-    record { slot = simp e; word = simp (e, le-leb (refusal p) 7 (refusal_most p)); told = simp e (omega arith) }
+    record { slot = simp (n, e); word = simp (n, e, le-leb (refusal p) 7 (refusal_most p)); told = simp (n, e) (omega arith) }
 
 module _ (s : Settings) (ts : List Taken) (i : ℕ) (p out : List ℕ) where
   abbrev ps : List Taken
@@ -112,14 +120,14 @@ module _ (s : Settings) (ts : List Taken) (i : ℕ) (p out : List ℕ) where
   abbrev q : Taken
   q = taken_of s p
 
-  packet_follows : {d : Step} → ruled.Follows s ps p out d → Steps (since s ts) i p out d
+  packet_follows : {d : Outcome} → ruled.Follows s ps p out d → Steps (since s ts) i p out d
   unfolding lane_after accepted one answer_to
   packet_follows (ruled.refuses k high) = refused_follows (since s ts) i p out k high
   packet_follows (ruled.unread some') = unread_follows (since s ts) i p out some'
   packet_follows (ruled.repeats_it e) = record { slot = simp e; word = simp e; told = simp e (omega arith) }
   packet_follows (ruled.accepts d new slot answer output) =
       let t = word_tells (unit ps q) (group (q ∷ ps)) (missing ps q) (gives_up ps q) in
-      let same : reply_after (since s ts) p out d ≡ to_packet (answer_to ps q) (with_unit out (unit ps q)) = ap₂ to_packet answer output in
+      let same : reply_after (since s ts) p out d ≡ to_packet (Ok (answer_to ps q)) (with_unit out (unit ps q)) = ap₂ to_packet answer output in
       rw same
       (record {
         slot = simp (t.0, new) slot;
@@ -130,7 +138,7 @@ module _ (s : Settings) (ts : List Taken) (i : ℕ) (p out : List ℕ) where
 -- ---- a call, where the lane that it names is its past's
 of_past : (past : Past) (i : ℕ) (p out : List ℕ) (ls : List Lane) → (lane_from past).last < counts → Steps past i p out (settle ls i (packet_plan (lane_from past) p (length out)))
 unfolding packet_plan settle
-of_past shut i p out ls few = refused_follows shut i p out 11 (omega arith)
+of_past shut i p out ls few = refused_follows shut i p out (named 11) (omega arith)
 of_past (since s ts) i p out ls few = packet_follows s ts i p out (planned s (accepted ts) few p out ls i)
 
 module _ (x : Handed) (k : Sound x.state) (size : length x.pool ≡ 16384) (past : Past) where
@@ -147,13 +155,13 @@ module _ (x : Handed) (k : Sound x.state) (size : length x.pool ≡ 16384) (past
       (sym e) (of_past past i p out x.state.lanes) few)
 
   -- ---- it is refused exactly for the paper's causes, judged on the lanes
-  step_number : (d : Step) → leading (told (answer_of d)) ≡ refusal_of d
-  step_number (step.Refuse n) = refl
-  step_number (step.Unread n q) = refl
-  step_number step.Repeat = refl
-  step_number (step.Stray a) = refl
-  step_number (step.Hold a on n) = refl
-  step_number (step.Unit a on n) = refl
+  step_number : (d : Outcome) → leading (told (answer_of d)) ≡ refusal_of d
+  step_number (Err (Unread u)) = refl
+  step_number (Err (Untaken r)) = refl
+  step_number (Ok step.Repeat) = refl
+  step_number (Ok (step.Stray a)) = refl
+  step_number (Ok (step.Hold a on n)) = refl
+  step_number (Ok (step.Unit a on n)) = refl
 
   pub call_number : (c : Call) → number_in (reply x c) ≡ first 0 (numbers_of (causes x.state.lanes c))
   unfolding reply opening opening_refusal closing closing_refusal taking

@@ -18,7 +18,7 @@ use Rattle.marks.proofs.Leaving.{freed_other}
 use Rattle.marks.proofs.Counts.{is_of, counts_one, counts_none, freed_is_free}
 use Rattle.marks.proofs.Lowest.{lowest_given, others_keep}
 use Rattle.lane.specs.declared.Lane.{Lane}
-use Rattle.grouping.specs.declared.Step.{Step}
+use Rattle.grouping.specs.Steps.{Outcome}
 use Rattle.grouping.proofs.Planned.{of_either}
 use Rattle.state.specs.declared.State.{State}
 use Rattle.state.specs.State.{lane_at}
@@ -119,7 +119,7 @@ module _ (s : State) (k : Sound s) (i b : ℕ) (block : b < 64) where
             ])
             (λ d. rw (grown_keeps (inl d)) kept_moves)
 
-  step_moves : (p : List ℕ) (octets room : ℕ) {d : Step} → Stepped s i p octets room d → Moves (marks_after s.marks i own d)
+  step_moves : (p : List ℕ) (octets room : ℕ) {d : Outcome} → Stepped s i p octets room d → Moves (marks_after s.marks i own d)
   unfolding marks_after
   step_moves p octets room (now.refuses n h) = inl refl
   step_moves p octets room (now.unread u) = inl refl

@@ -10,6 +10,8 @@ use native.Mathlib.Omega.{arith}
 use lib.Dec.{eqb, ltb, leb}
 use lib.ListN.{length, get_or, set, length-map, get_or-eq_default}
 use lib.Seq.{get_or-set_same}
+use Rattle.std.specs.Prelude.{Result, Ok, Err}
+use Rattle.grouping.specs.declared.Refused.{Refused}
 use Rattle.octets.proofs.Order.{either}
 use Rattle.packet.specs.Space.{flags}
 use Rattle.packet.specs.Space as space
@@ -22,7 +24,7 @@ use Rattle.marks.proofs.Finding.{bears}
 use Rattle.marks.proofs.Matched.{matched}
 use Rattle.lane.specs.declared.Lane.{Lane}
 use Rattle.grouping.specs.declared.Added.{Added}
-use Rattle.grouping.specs.declared.Step.{Step}
+use Rattle.grouping.specs.Steps.{Outcome}
 use Rattle.grouping.specs.declared.Step.TheVariants as step
 use Rattle.grouping.specs.declared.Plan.{Plan}
 use Rattle.lane.specs.Lane.{closed, held, holding}
@@ -113,22 +115,21 @@ freed start calls c b its shut =
     (only_its_own start calls c b its.0)
 
 -- what was answered is what the step tells
-pub step_told : (x : Handed) (i : ℕ) (p out left : List ℕ) (a : Answer) → reply x (takes i p out) ≡ to_packet a left
+pub step_told : (x : Handed) (i : ℕ) (p out left : List ℕ) (a : Result Answer Refused) → reply x (takes i p out) ≡ to_packet a left
     → answer_of (packet_step x.state i p (length x.pool) (length out)) ≡ a
 unfolding reply taking
 step_told x i p out left a e = cc
 
 -- ---- flags 1 begin a group and flags 0 go on with one: a step that holds goes on unless the flags are 1
-abbrev Flagged : List ℕ → Step → Type 0
-Flagged p (step.Refuse k) = Unit {0}
-Flagged p (step.Unread k q) = Unit {0}
-Flagged p step.Repeat = Unit {0}
-Flagged p (step.Stray a) = Unit {0}
-Flagged p (step.Hold a on n) = on ≡ not (eqb (flags p) 1)
-Flagged p (step.Unit a on n) = Unit {0}
+abbrev Flagged : List ℕ → Outcome → Type 0
+Flagged p (Err r) = Unit {0}
+Flagged p (Ok step.Repeat) = Unit {0}
+Flagged p (Ok (step.Stray a)) = Unit {0}
+Flagged p (Ok (step.Hold a on n)) = on ≡ not (eqb (flags p) 1)
+Flagged p (Ok (step.Unit a on n)) = Unit {0}
 
 module _ (ls : List Lane) (i : ℕ) (l : Lane) (p : List ℕ) (room : ℕ) where
-  abbrev Says : Plan → Type 0
+  abbrev Says : Result Plan Refused → Type 0
   Says d = Flagged p (settle ls i d)
 
   to_hold : (a : Added) (on : Bool) (n : ℕ) → on ≡ not (eqb (flags p) 1) → Says (hold_plan l.settings a on n)
@@ -171,12 +172,12 @@ module _ (s : State) (k : Sound s) (i : ℕ) (p : List ℕ) where
       (λ f. let goes : on ≡ true = simp f at e in simp (f, goes) (refl, refl))
 
   module _ (octets room b : ℕ) (block : b < 64) where
-    abbrev Lowest : Step → Type 0
+    abbrev Lowest : Outcome → Type 0
     Lowest d =
         get_or (answered s i d).state.marks b 0
         ≡ marked s i p b (held (lane_at (answered s i d).state i))
 
-    held_lowest : {d : Step} {m : ℕ} {givenUp : Bool} → Stepped s i p octets room d → Flagged p d → answer_of d ≡ Held m givenUp → Lowest d
+    held_lowest : {d : Outcome} {m : ℕ} {givenUp : Bool} → Stepped s i p octets room d → Flagged p d → answer_of d ≡ Ok (Held m givenUp) → Lowest d
     unfolding marks_after lane_after
     held_lowest (now.refuses n h) flagged told = cc
     held_lowest (now.unread u) flagged told = cc
@@ -186,16 +187,16 @@ module _ (s : State) (k : Sound s) (i : ℕ) (p : List ℕ) where
     held_lowest (now.holds a on n f e) flagged told =
         let g = group_grows s k i a on n (length (user_of s i p)) f e in
         let same = kept_by_flags f.small on flagged in
-        let next : Lane = lane_after (lane_at s i) (step.Hold a on n) in
+        let next : Lane = lane_after (lane_at s i) (Ok (step.Hold a on n)) in
         let here : get_or (set s.lanes i next) i closed ≡ next = get_or-set_same s.lanes i next closed (omega (arith, k.shape.0, f.small)) in
         rw (same.0, same.1, here) (grown_marked s k i b block f.small on n g.0 g.1)
 
-pub lowest_at : (x : Handed) → Sound x.state → (i : ℕ) (p out left : List ℕ) (m : ℕ) (givenUp : Bool) (b : ℕ) → b < 64 → reply x (takes i p out) ≡ to_packet (Held m givenUp) left
+pub lowest_at : (x : Handed) → Sound x.state → (i : ℕ) (p out left : List ℕ) (m : ℕ) (givenUp : Bool) (b : ℕ) → b < 64 → reply x (takes i p out) ≡ to_packet (Ok (Held m givenUp)) left
     → mark_at (after x (takes i p out)).state b ≡ marked x.state i p b (held (lane_at (after x (takes i p out)).state i))
 unfolding after taking
 lowest_at x k i p out left m givenUp b block e =
     held_lowest x.state k i p (length x.pool) (length out) b block (stepped x.state k i p (length x.pool) (length out))
-    (step_flagged x.state i p (length x.pool) (length out)) (step_told x i p out left (Held m givenUp) e)
+    (step_flagged x.state i p (length x.pool) (length out)) (step_told x i p out left (Ok (Held m givenUp)) e)
 
 pub takes_lowest : TakesLowest
 takes_lowest start calls i p out left m givenUp b block e = lowest_at (run ours (begun start) calls) (reached_sound start calls) i p out left m givenUp b block e

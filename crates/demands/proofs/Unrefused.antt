@@ -9,6 +9,7 @@ use native.Mathlib.Omega.{arith}
 use borrow.Author.Tests.{eqb-false, eq-eqb, le-ltb, lt-leb}
 use lib.Dec.{eqb, ltb, leb}
 use lib.ListN.{length, get_or, set}
+use Rattle.std.specs.Prelude.{Ok, Err}
 use Rattle.octets.proofs.Order.{either, both}
 use Rattle.packet.specs.Space.{counts, flags, count}
 use Rattle.reading.specs.Reading.{refusal}
@@ -16,8 +17,8 @@ use Rattle.record.specs.Record.{most_packets, record_size}
 use Rattle.marks.specs.Blocks.{blocks_for}
 use Rattle.lane.specs.declared.Lane.{Lane}
 use Rattle.grouping.specs.declared.Added.{Added}
-use Rattle.grouping.specs.declared.Step.{Step}
-use Rattle.grouping.specs.declared.Step.TheVariants.{Refuse, Unread, Repeat, Stray, Hold}
+use Rattle.grouping.specs.Steps.{Outcome}
+use Rattle.grouping.specs.declared.Step.TheVariants.{Repeat, Stray, Hold}
 use Rattle.grouping.specs.declared.Step.TheVariants as step
 use Rattle.lane.specs.Lane.{held, holding, illegal, tallies_possible, fine, closed}
 use Rattle.grouping.specs.Packets.{terms_of, fault, user_octets}
@@ -43,21 +44,19 @@ use Rattle.calls.proofs.Laws.{repeat_leaves}
 use Rattle.demands.proofs.Followed.{lane_is, lanes_are}
 
 -- ---- a step that is no refusal
-abbrev Taken : Step → Type 0
-Taken (Refuse k) = ⊥
-Taken (Unread k q) = ⊥
-Taken Repeat = Unit {0}
-Taken (Stray a) = Unit {0}
-Taken (Hold a on n) = Unit {0}
-Taken (step.Unit a on n) = Unit {0}
+abbrev Taken : Outcome → Type 0
+Taken (Err r) = ⊥
+Taken (Ok Repeat) = Unit {0}
+Taken (Ok (Stray a)) = Unit {0}
+Taken (Ok (Hold a on n)) = Unit {0}
+Taken (Ok (step.Unit a on n)) = Unit {0}
 
-taken_told : (d : Step) (out : List ℕ) → Taken d → is_refused (to_packet (answer_of d) out) ≡ false
-taken_told (Refuse k) out h = absurd h
-taken_told (Unread k q) out h = absurd h
-taken_told Repeat out h = refl
-taken_told (Stray a) out h = refl
-taken_told (Hold a on n) out h = refl
-taken_told (step.Unit a on n) out h = refl
+taken_told : (d : Outcome) (out : List ℕ) → Taken d → is_refused (to_packet (answer_of d) out) ≡ false
+taken_told (Err r) out h = absurd h
+taken_told (Ok Repeat) out h = refl
+taken_told (Ok (Stray a)) out h = refl
+taken_told (Ok (Hold a on n)) out h = refl
+taken_told (Ok (step.Unit a on n)) out h = refl
 
 taken_reply : (x : Handed) (i : ℕ) (p out : List ℕ) → Taken (step_for x i p out) → is_refused (reply x (takes i p out)) ≡ false
 unfolding reply taking
@@ -67,7 +66,7 @@ module _ (ls : List Lane) (i : ℕ) (p : List ℕ) (room : ℕ) where
   abbrev own : Lane
   own = get_or ls i closed
 
-  pub held_if_room : (a : Added) (on : Bool) (n : ℕ) → blocks_for n ≤ own.settings.cap → within (set ls i (holding own n)) ≡ true → settle ls i (hold_plan own.settings a on n) ≡ Hold a on n
+  pub held_if_room : (a : Added) (on : Bool) (n : ℕ) → blocks_for n ≤ own.settings.cap → within (set ls i (holding own n)) ≡ true → settle ls i (hold_plan own.settings a on n) ≡ Ok (Hold a on n)
   unfolding hold_plan settle
   held_if_room a on n most beside = simp (le-ltb own.settings.cap (blocks_for n) most, beside)
 
@@ -126,10 +125,10 @@ module _ (start : Start) (calls : List Call) (i : ℕ) (packet out : List ℕ) w
       gets fine' (has_room x.state k i packet fine'.0 few)
 
   again : l.opened ≡ true → fault (terms_of l) packet ≡ 0 → repeats l (count packet) ≡ true
-      → (reply x (takes i packet out) ≡ to_packet answer.Repeat out) × (runs.after x (takes i packet out) ≡ x)
+      → (reply x (takes i packet out) ≡ to_packet (Ok answer.Repeat) out) × (runs.after x (takes i packet out) ≡ x)
   unfolding packet_plan accepted_plan settle runs.after taking taking_pool
   again open' sound same =
-      let step : step_for x i packet out ≡ Repeat = planned ∙ simp (open', eq-eqb (refusal packet) 0 (accepted (terms_of l) packet sound).read, sound, same) in
+      let step : step_for x i packet out ≡ Ok Repeat = planned ∙ simp (open', eq-eqb (refusal packet) 0 (accepted (terms_of l) packet sound).read, sound, same) in
       let left = repeat_leaves x.state i packet x.pool out step in
       (took_reply x i packet out ∙ rw step, ap₂ (λ (s : State) (p : List ℕ). record { state = s; pool = p }) left.0 left.1)
 

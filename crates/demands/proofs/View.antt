@@ -10,12 +10,13 @@ use lib.ListN.{length, get_or, set, get_or-eq_default}
 use lib.Seq.{get_or-set_same}
 use borrow.Author.Tests.{eqb-true}
 use lib.Dec.{eqb}
+use Rattle.std.specs.Prelude.{Ok, Err}
 use Rattle.octets.specs.Output.{put, unless_refused}
 use Rattle.pool.specs.Octets.{gathered}
 use Rattle.lane.specs.declared.Settings.{Settings}
 use Rattle.lane.specs.declared.Lane.{Lane}
-use Rattle.grouping.specs.declared.Step.{Step}
-use Rattle.grouping.specs.declared.Step.TheVariants.{Refuse, Unread, Repeat, Stray, Hold, Unit}
+use Rattle.grouping.specs.Steps.{Outcome}
+use Rattle.grouping.specs.declared.Step.TheVariants.{Repeat, Stray, Hold, Unit}
 use Rattle.lane.specs.Lane.{closed}
 use Rattle.grouping.specs.Packets.{user_data}
 use Rattle.grouping.specs.Plans.{packet_plan}
@@ -40,7 +41,7 @@ slot_at s pool i = record { lane = lane_at s i; group = group_in s pool i }
 abbrev pub slot_in : Handed → ℕ → Slot
 slot_in x i = slot_at x.state x.pool i
 
-abbrev pub step_for : Handed → ℕ → List ℕ → List ℕ → Step
+abbrev pub step_for : Handed → ℕ → List ℕ → List ℕ → Outcome
 step_for x i p out = packet_step x.state i p (length x.pool) (length out)
 
 -- ---- a lane that was put in its place
@@ -58,26 +59,25 @@ unfolding group_of
 group_same s i pool on = refl
 
 module _ (s : State) (k : Sound s) (i : ℕ) (p pool : List ℕ) (size : length pool ≡ 16384) where
-  step_slot : {octets room : ℕ} {d : Step} → Stepped s i p octets room d
+  step_slot : {octets room : ℕ} {d : Outcome} → Stepped s i p octets room d
       → slot_at (answered s i d).state (pool_after s.marks i (lane_at s i) d (user_of s i p) pool) i ≡ slot_after (slot_at s pool i) p d
   unfolding lane_after marks_after pool_after
   step_slot (refuses n h) = ap (λ (t : State). slot_at t pool i) (sym (same_state s i))
   step_slot (unread u) = ap (λ (t : State). slot_at t pool i) (sym (same_state s i))
   step_slot repeats = ap (λ (t : State). slot_at t pool i) (sym (same_state s i))
-  step_slot (strays a f) = emptied s k i f.small (lane_after (lane_at s i) (Stray a)) _ pool refl
-  step_slot (ends a on n f e h) = emptied s k i f.small (lane_after (lane_at s i) (Unit a on n)) _ pool refl
+  step_slot (strays a f) = emptied s k i f.small (lane_after (lane_at s i) (Ok (Stray a))) _ pool refl
+  step_slot (ends a on n f e h) = emptied s k i f.small (lane_after (lane_at s i) (Ok (Unit a on n))) _ pool refl
   step_slot {octets} {room} (holds a on n f e) =
-      ap₂ (λ (l : Lane) (g : List ℕ). record { lane = l; group = g }) (put_there s k i f.small (lane_after (lane_at s i) (Hold a on n)))
+      ap₂ (λ (l : Lane) (g : List ℕ). record { lane = l; group = g }) (put_there s k i f.small (lane_after (lane_at s i) (Ok (Hold a on n))))
       ((held_gathered s k i p pool size a on n {octets = octets} {room = room} (holds a on n f e)).0 ∙ ap (λ (g : List ℕ). g ++ user_of s i p) (group_same s i pool on))
 
-out_same : (s : State) (i : ℕ) (u pool out : List ℕ) (d : Step) → out_after s.marks i (lane_at s i) d u pool out ≡ out_from (group_in s pool i) u d out
+out_same : (s : State) (i : ℕ) (u pool out : List ℕ) (d : Outcome) → out_after s.marks i (lane_at s i) d u pool out ≡ out_from (group_in s pool i) u d out
 unfolding out_after
-out_same s i u pool out (Refuse n) = refl
-out_same s i u pool out (Unread n q) = refl
-out_same s i u pool out Repeat = refl
-out_same s i u pool out (Stray a) = refl
-out_same s i u pool out (Hold a on n) = refl
-out_same s i u pool out (Unit a on n) = ap (λ (g : List ℕ). put out 0 (g ++ u)) (group_same s i pool on)
+out_same s i u pool out (Err r) = refl
+out_same s i u pool out (Ok Repeat) = refl
+out_same s i u pool out (Ok (Stray a)) = refl
+out_same s i u pool out (Ok (Hold a on n)) = refl
+out_same s i u pool out (Ok (Unit a on n)) = ap (λ (g : List ℕ). put out 0 (g ++ u)) (group_same s i pool on)
 
 -- a refusal leaves the lane
 unless_slot : (refusal i : ℕ) (new old : State) (pool : List ℕ) (v : Slot) → (refusal ≡ 0 → slot_at new pool i ≡ v)

@@ -9,6 +9,7 @@ use native.Mathlib.Omega.{arith}
 use borrow.Author.Tests.{eqb-true, eqb-false, eq-eqb, ne_eqb, lt-leb}
 use lib.Dec.{eqb}
 use lib.ListN.{length, get_or, replicate, length-replicate}
+use Rattle.std.specs.Prelude.{Ok}
 use Rattle.octets.specs.Order.{first, numbers_of}
 use Rattle.octets.proofs.Order.{either}
 use Rattle.packet.specs.Space.{flags, count}
@@ -51,7 +52,7 @@ module _ (ls : List Lane) (i : ℕ) (p : List ℕ) (room : ℕ) where
   added = added_from mine (flags p) (count p)
 
   held_step : NothingBefore mine p → ToHold mine p → would_hold mine p ≤ mine.settings.cap → within (lanes_with ls i p) ≡ true
-      → (on : Bool) × (n : ℕ) × (settle ls i (packet_plan mine p room) ≡ Hold added on n)
+      → (on : Bool) × (n : ℕ) × (settle ls i (packet_plan mine p room) ≡ Ok (Hold added on n))
   unfolding packet_plan accepted_plan grouping_plan would_group
   held_step (o, f, r, k) (inl is1) few fits =
       let read = eq-eqb (refusal p) 0 (accepted (terms_of mine) p f).read in
@@ -107,7 +108,7 @@ module _ (start : Start) (calls : List Call) where
       is_held : NothingBefore l packet → ToHold l packet → would_hold l packet ≤ l.settings.cap → IsHeld x i packet out
       is_held asks hold few =
           let (on, n, done) = held_step all i packet (length out) asks hold few (room_alone asks.0 few) in
-          let step : step_for x i packet out ≡ Hold (added all i packet (length out)) on n = planned start calls i packet out ∙ done in
+          let step : step_for x i packet out ≡ Ok (Hold (added all i packet (length out)) on n) = planned start calls i packet out ∙ done in
           ((added all i packet (length out)).missing, (added all i packet (length out)).given_up, took_reply x i packet out ∙ rw step)
 
 -- ---- 19

@@ -1,6 +1,6 @@
 -- Demand 2. Reading and writing agree with the books as condensed in the paper, and each reader gives back what its writer was given. Every unit,
 -- missing count and credit is the one the grouping rule gives for the packets that source had accepted.
-use Rattle.std.specs.Prelude.{ℕ, ◌≤◌, ◌≡◌, true, cond, List, [], ◌∷◌, ◌++◌, ◌↔◌, length, take, replicate, eqb, leb}
+use Rattle.std.specs.Prelude.{ℕ, ◌≤◌, ◌≡◌, true, cond, List, [], ◌∷◌, ◌++◌, ◌↔◌, length, take, replicate, eqb, leb, Result, Ok, Err}
 use Rattle.octets.specs.Octets.{AreOctets}
 use Rattle.octets.specs.Order.{Test, first, numbers_of}
 use Rattle.octets.specs.Output.{leading, put}
@@ -16,12 +16,13 @@ use Rattle.record.specs.Record.{record_size, Wide, record_octets, possible}
 use Rattle.record.specs.Reading.{record_reading, file_reading}
 use Rattle.record.specs.Told.{told_read, told_file}
 use Rattle.record.specs.declared.Record.{Record}
-use Rattle.record.specs.declared.RecordRead.TheVariants.{Fields}
-use Rattle.record.specs.declared.RecordFile.TheVariants.{Records}
 use Rattle.lane.specs.declared.Lane.{Lane}
 use Rattle.state.specs.State.{lane_at}
 use Rattle.intake.specs.declared.Answer.{Answer}
-use Rattle.intake.specs.declared.Answer.TheVariants.{Refused, Unread, Repeat}
+use Rattle.intake.specs.declared.Answer.TheVariants.{Repeat}
+use Rattle.refusal.specs.Refusal.{named}
+use Rattle.grouping.specs.declared.Refused.{Refused}
+use Rattle.grouping.specs.declared.Refused.TheVariants.{Unread, Untaken}
 use Rattle.intake.specs.Calls.{opening_causes, closing_causes}
 use Rattle.rule.specs.Rule.{Taken, taken_of, octets_in, repeats, group, unit, answer_to, with_unit, credit}
 use Rattle.entries.specs.Entries.{SpacePacket, EncapsulationPacket, RecordGiven}
@@ -47,13 +48,13 @@ Unrefused w = leading w.tells ≡ 0
 abbrev pub SpaceGivenBack : AnyIntake → Type 0
 SpaceGivenBack n =
     (g : SpacePacket) → Unrefused (n.writes_space g)
-    → (n.reads (n.writes_space g).out ≡ told (Space g.packet_type g.secondary g.apid g.flags g.count (length g.field)))
+    → (n.reads (n.writes_space g).out ≡ told (Ok (Space g.packet_type g.secondary g.apid g.flags g.count (length g.field))))
     × (n.hands (n.writes_space g).out ≡ g.field)
 
 abbrev pub EncapsulationGivenBack : AnyIntake → Type 0
 EncapsulationGivenBack n =
     (g : EncapsulationPacket) → Unrefused (n.writes_encapsulation g)
-    → (n.reads (n.writes_encapsulation g).out ≡ told (Encapsulation g.protocol g.user g.extension (shortest g.protocol g.user (length g.content)) (length g.content)))
+    → (n.reads (n.writes_encapsulation g).out ≡ told (Ok (Encapsulation g.protocol g.user g.extension (shortest g.protocol g.user (length g.content)) (length g.content))))
     × (n.hands (n.writes_encapsulation g).out ≡ g.content)
 
 -- The writer uses the shortest header that can carry the fields: no packet with a shorter one reads so
@@ -64,7 +65,7 @@ HeaderIsShortest n =
 
 abbrev pub RecordGivenBack : AnyIntake → Type 0
 RecordGivenBack n =
-    (g : RecordGiven) → Wide g.credit → Unrefused (n.writes_record g) → n.reads_record (take record_size (n.writes_record g).out) ≡ told_read (Fields g.credit)
+    (g : RecordGiven) → Wide g.credit → Unrefused (n.writes_record g) → n.reads_record (take record_size (n.writes_record g).out) ≡ told_read (Ok g.credit)
 
 -- and a file of such records that are possible, each as the writer leaves it in an output of just its size, reads as their number
 pub record Possible : Type 0 where
@@ -77,7 +78,7 @@ file_of n [] = []
 file_of n (r ∷ rs) = (n.writes_record (record { credit = r.credit; out = replicate record_size 0 })).out ++ file_of n rs
 
 abbrev pub FileGivenBack : AnyIntake → Type 0
-FileGivenBack n = (rs : List Possible) → n.reads_file (file_of n rs) ≡ told_file (Records (length rs))
+FileGivenBack n = (rs : List Possible) → n.reads_file (file_of n rs) ≡ told_file (Ok (length rs))
 
 -- ---- Writing what was read gives the same octets for every Space Packet, and for an Encapsulation Packet exactly when its header was the shortest; and it
 -- isn't refused where there is room
@@ -102,7 +103,7 @@ EncapsulationWrittenAgain n =
 
 abbrev pub RecordWrittenAgain : AnyIntake → Type 0
 RecordWrittenAgain n =
-    (r : Record) (s out : List ℕ) → AreOctets s → n.reads_record s ≡ told_read (Fields r) → record_size ≤ length out
+    (r : Record) (s out : List ℕ) → AreOctets s → n.reads_record s ≡ told_read (Ok r) → record_size ≤ length out
     → Unrefused (n.writes_record (record { credit = r; out = out })) × ((n.writes_record (record { credit = r; out = out })).out ≡ put out 0 s)
 
 -- ---- Every unit, missing count and credit is the one the grouping rule gives for the packets that source had accepted
@@ -113,8 +114,9 @@ causes lanes (takes i packet out) = packet_causes lanes i packet (length out)
 causes lanes (closes i out) = closing_causes lanes i (length out)
 
 -- what a packet is answered that is refused: the number, and with those of reading, 1 to 7, the place
-abbrev pub refused_answer : ℕ → List ℕ → Answer
-refused_answer number packet = cond (leb number 7) (Unread number (fault_at packet number)) (Refused number)
+abbrev pub refused_answer : ℕ → List ℕ → Result Answer Refused
+refused_answer number packet =
+    cond (leb number 7) (Err (Unread (record { refusal = named number; place = fault_at packet number }))) (Err (Untaken (named number)))
 
 -- what a refused call is replied: that, and the output as it was
 abbrev pub refused_with : ℕ → Call → Reply
@@ -124,7 +126,7 @@ refused_with number (closes i out) = to_closing number out
 
 -- what a packet is replied by the grouping rule
 abbrev pub packet_reply : List Taken → Taken → List ℕ → Reply
-packet_reply packets p out = cond (repeats packets p) (to_packet Repeat out) (to_packet (answer_to packets p) (with_unit out (unit packets p)))
+packet_reply packets p out = cond (repeats packets p) (to_packet (Ok Repeat) out) (to_packet (Ok (answer_to packets p)) (with_unit out (unit packets p)))
 
 -- what a call is replied that isn't refused
 abbrev pub ruled : Past → Call → Reply

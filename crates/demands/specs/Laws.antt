@@ -1,5 +1,5 @@
 -- What follows from the demands, and what else holds of every run of ours: laws in the paper's words, which the demands don't need.
-use Rattle.std.specs.Prelude.{ℕ, ◌+◌, ◌≤◌, ◌<◌, ◌≡◌, Bool, true, false, cond, ◌&&◌, List, [], ◌∷◌, ◌⊎◌, length, get_or, take, eqb, ltb}
+use Rattle.std.specs.Prelude.{ℕ, ◌+◌, ◌≤◌, ◌<◌, ◌≡◌, Bool, true, false, cond, ◌&&◌, List, [], ◌∷◌, ◌⊎◌, length, get_or, take, eqb, ltb, Result, Ok, Err}
 use Rattle.octets.specs.Octets.{one}
 use Rattle.packet.specs.Space as space
 use Rattle.record.specs.Record.{record_in}
@@ -11,8 +11,9 @@ use Rattle.grouping.specs.Packets.{terms_of, fault}
 use Rattle.grouping.specs.Grouping as lane
 use Rattle.state.specs.declared.State.{State}
 use Rattle.state.specs.State.{lane_at}
+use Rattle.grouping.specs.declared.Refused.{Refused}
 use Rattle.intake.specs.declared.Answer.{Answer}
-use Rattle.intake.specs.declared.Answer.TheVariants.{Refused, Unread, Repeat, Stray, Held, Unit}
+use Rattle.intake.specs.declared.Answer.TheVariants.{Repeat, Stray, Held, Unit}
 use Rattle.intake.specs.Told.{repeat_kind, stray_kind, held_kind, unit_kind}
 use Rattle.rule.specs.Rule.{endings}
 use Rattle.demands.specs.Runs.{Handed, Start, begun, Call, opens, takes, closes, Reply, to_opening, to_packet, to_closing, is_refused, AnyIntake, ours, reply, after, run, names, lane_of}
@@ -31,13 +32,12 @@ EachInShareStays = (n : AnyIntake) (i : ℕ) (start : Start) (calls : List Call)
 
 -- ---- what the grouping rule means for a credit
 -- which answer it is: 0 for a refusal
-abbrev pub kind_of : Answer → ℕ
-kind_of (Refused k) = 0
-kind_of (Unread k place) = 0
-kind_of Repeat = repeat_kind
-kind_of (Stray missing givenUp) = stray_kind
-kind_of (Held missing givenUp) = held_kind
-kind_of (Unit n missing givenUp) = unit_kind
+abbrev pub kind_of : Result Answer Refused → ℕ
+kind_of (Err r) = 0
+kind_of (Ok Repeat) = repeat_kind
+kind_of (Ok (Stray missing givenUp)) = stray_kind
+kind_of (Ok (Held missing givenUp)) = held_kind
+kind_of (Ok (Unit n missing givenUp)) = unit_kind
 
 abbrev pub is_unit : Reply → Bool
 is_unit (to_opening refusal) = false
@@ -74,7 +74,7 @@ RepeatsChangeNothing =
     InEveryRun ours (λ x past. (i : ℕ) (packet out : List ℕ)
     → (lane_from (past i)).opened ≡ true → fault (terms_of (lane_from (past i))) packet ≡ 0
     → lane.repeats (lane_from (past i)) (space.count packet) ≡ true
-    → (reply x (takes i packet out) ≡ to_packet Repeat out) × (after x (takes i packet out) ≡ x))
+    → (reply x (takes i packet out) ≡ to_packet (Ok Repeat) out) × (after x (takes i packet out) ≡ x))
 
 -- ---- blocks
 -- a call moves blocks only between the free ones and its lane's
@@ -108,7 +108,7 @@ marked s i packet b holds =
 abbrev pub TakesLowest : Type 0
 TakesLowest =
     InEveryRun ours (λ x past. (i : ℕ) (packet out left : List ℕ) (m : ℕ) (givenUp : Bool) (b : ℕ) → b < blocks
-    → reply x (takes i packet out) ≡ to_packet (Held m givenUp) left
+    → reply x (takes i packet out) ≡ to_packet (Ok (Held m givenUp)) left
     → mark_at (after x (takes i packet out)).state b ≡ marked x.state i packet b (held (lane_at (after x (takes i packet out)).state i)))
 
 pub record Laws : Type 0 where

@@ -1,5 +1,5 @@
 -- Any run of openings, packets and closings, by any intake, with state and pool handed back as the last call left them.
-use Rattle.std.specs.Prelude.{ℕ, ◌≡◌, Bool, cond, not, List, [], ◌∷◌, length, eqb}
+use Rattle.std.specs.Prelude.{ℕ, ◌≡◌, Bool, cond, not, List, [], ◌∷◌, length, eqb, Result}
 use Rattle.octets.specs.Output.{leading}
 use Rattle.reading.specs.Reading.{reading, content}
 use Rattle.record.specs.Reading.{record_reading, file_reading}
@@ -7,6 +7,7 @@ use Rattle.pool.specs.Octets.{pool_octets}
 use Rattle.lane.specs.declared.Settings.{Settings}
 use Rattle.state.specs.declared.State.{State}
 use Rattle.state.specs.State.{fresh_state}
+use Rattle.grouping.specs.declared.Refused.{Refused}
 use Rattle.intake.specs.declared.Answer.{Answer}
 use Rattle.intake.specs.After.{opening, closing, closing_out, taking, taking_pool, taking_out}
 use Rattle.intake.specs.Told.{told}
@@ -34,7 +35,7 @@ pub data Call : Type 0 where
 -- what comes back: an opening's or a closing's refusal, or 0; a packet's answer; and the output after the call
 pub data Reply : Type 0 where
   to_opening : (refusal : ℕ) → Reply
-  to_packet : (answer : Answer) (out : List ℕ) → Reply
+  to_packet : (answer : Result Answer Refused) (out : List ℕ) → Reply
   to_closing : (refusal : ℕ) (out : List ℕ) → Reply
 
 -- the number of the refusal in it, and 0 for none

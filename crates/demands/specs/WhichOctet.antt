@@ -1,9 +1,12 @@
 -- Which octet is wrong, beside demands 2 and 3, which count the place as part of the answer: the place is honest, and a lane passes it on.
-use Rattle.std.specs.Prelude.{ℕ, ◌≤◌, ◌<◌, ◌≡◌, true, List, [], ◌∷◌, ◌↔◌, length}
+use Rattle.std.specs.Prelude.{ℕ, ◌≤◌, ◌<◌, ◌≡◌, true, List, [], ◌∷◌, ◌↔◌, length, Err}
 use Rattle.octets.specs.Octets.{octet}
 use Rattle.octets.specs.Output.{leading}
 use Rattle.places.specs.AtFault.{IsHonest, head}
-use Rattle.intake.specs.declared.Answer.TheVariants.{Refused, Unread}
+use Rattle.refusal.specs.Refusal.{number}
+use Rattle.refusal.specs.declared.Refusal.{Refusal}
+use Rattle.packet.specs.declared.Unread.{Unread}
+use Rattle.grouping.specs.declared.Refused.TheVariants as refused
 use Rattle.demands.specs.Runs.{AnyIntake, takes, to_packet}
 use Rattle.demands.specs.Past.{lane_from, InEveryRun}
 
@@ -25,8 +28,8 @@ HeaderDecides n = (s t : List ℕ) → length t ≡ length s → ((k : ℕ) → 
 abbrev pub PassedOn : AnyIntake → Type 0
 PassedOn n =
     InEveryRun n (λ x past. (i : ℕ) (packet out : List ℕ) → (lane_from (past i)).opened ≡ true
-    → ((k q : ℕ) → (n.reply_to x (takes i packet out) ≡ to_packet (Unread k q) out) ↔ RefusedAt n packet k q)
-    × ((k : ℕ) → n.reply_to x (takes i packet out) ≡ to_packet (Refused k) out → 8 ≤ k))
+    → ((u : Unread) → (n.reply_to x (takes i packet out) ≡ to_packet (Err (refused.Unread u)) out) ↔ RefusedAt n packet (number u.refusal) u.place)
+    × ((r : Refusal) → n.reply_to x (takes i packet out) ≡ to_packet (Err (refused.Untaken r)) out → 8 ≤ number r))
 
 pub record WhichOctet (n : AnyIntake) : Type 0 where
   pub each_is_honest : EachIsHonest n

@@ -1,5 +1,5 @@
 -- Whose fault no room is, beside demand 3, which reads 19 and 27 alike: 19 is the lane's own affair, and 27 is due to the other lanes.
-use Rattle.std.specs.Prelude.{ℕ, zero, suc, ◌<◌, ◌≡◌, Bool, cond, List, [], ◌∷◌, ◌++◌, ◌↔◌, eqb, replicate}
+use Rattle.std.specs.Prelude.{ℕ, zero, suc, ◌<◌, ◌≡◌, Bool, cond, List, [], ◌∷◌, ◌++◌, ◌↔◌, eqb, replicate, Ok}
 use Rattle.record.specs.Record.{record_size}
 use Rattle.marks.specs.Blocks.{lanes}
 use Rattle.intake.specs.declared.Answer.TheVariants.{Held}
@@ -31,7 +31,7 @@ OthersClosed i past = (j : ℕ) → j < lanes → (j ≡ i → ⊥) → past j �
 
 -- the packet is held, and the output is as it was
 abbrev pub IsHeld : Handed → ℕ → List ℕ → List ℕ → Type 0
-IsHeld x i packet out = (missing : ℕ) × (givenUp : Bool) × (reply x (takes i packet out) ≡ to_packet (Held missing givenUp) out)
+IsHeld x i packet out = (missing : ℕ) × (givenUp : Bool) × (reply x (takes i packet out) ≡ to_packet (Ok (Held missing givenUp)) out)
 
 -- a packet that is refused 27 would be held if every other lane were closed: it is, in any run in which they are and the lane is the same
 abbrev pub HeldIfOthersClosed : Type 0

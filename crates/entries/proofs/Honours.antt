@@ -34,11 +34,6 @@ use Rattle.putting.proofs.put_octets.Met as PutOctets
 use Rattle.putting.proofs.put_octet.Met as PutOctet
 use Rattle.putting.proofs.put_be16.Met as PutBe16
 use Rattle.putting.proofs.put_be32.Met as PutBe32
-use Rattle.numbers.proofs.one_if.Met as OneIf
-use Rattle.numbers.proofs.smaller.Met as SmallerOf
-use Rattle.numbers.proofs.larger.Met as LargerOf
-use Rattle.packet.proofs.number_of.Met as NumberOf
-use Rattle.packet.proofs.place_of.Met as PlaceOf
 use Rattle.packet.proofs.header_of.Met as HeaderOf
 use Rattle.packet.proofs.size_of.Met as SizeOf
 use Rattle.reading.proofs.data_of.Met as DataOf
@@ -70,7 +65,6 @@ use Rattle.text.proofs.put_decimal.Met as PutDecimal
 use Rattle.text.proofs.put_numbers.Met as PutNumbers
 use Rattle.listing.proofs.list.Met as ListAll
 use Rattle.listing.proofs.list_recording.Met as ListRecording
-use Rattle.listing.proofs.octets_of.Met as OctetsOf
 use Rattle.listing.proofs.written.Met as WrittenPart
 use Rattle.adler.proofs.adler32.Met as AdlerOf
 use Rattle.telling.proofs.is_ready.Met as IsReady
@@ -133,11 +127,6 @@ honours public.put_octets M = PutOctets.met
 honours public.put_octet M = PutOctet.met
 honours public.put_be16 M = PutBe16.met
 honours public.put_be32 M = PutBe32.met
-honours public.one_if M = OneIf.met
-honours public.smaller M = SmallerOf.met
-honours public.larger M = LargerOf.met
-honours public.number_of M = NumberOf.met
-honours public.place_of M = PlaceOf.met
 honours public.header_of M = HeaderOf.met
 honours public.size_of M = SizeOf.met
 honours public.sizes_in M = SizesIn.met
@@ -161,7 +150,6 @@ honours public.is_unsound M = IsUnsound.met
 honours public.put M = PutText.met
 honours public.put_decimal M = PutDecimal.met
 honours public.put_numbers M = PutNumbers.met
-honours public.octets_of M = OctetsOf.met
 honours public.written M = WrittenPart.met
 honours public.is_ready M = IsReady.met
 honours public.put_line M = PutLine.met

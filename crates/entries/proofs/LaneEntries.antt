@@ -8,8 +8,13 @@ use lib.Dec.{eqb}
 use lib.ListN.{length}
 use Rattle.octets.specs.Octets.{one}
 use Rattle.octets.specs.Output.{leading}
-use Rattle.grouping.specs.declared.Step.{Step}
-use Rattle.grouping.specs.declared.Step.TheVariants.{Refuse, Unread, Repeat, Stray, Hold, Unit}
+use Rattle.std.specs.Prelude.{Result, Ok, Err}
+use Rattle.refusal.specs.Refusal.{number, named}
+use Rattle.refusal.proofs.Named.{of_its_number}
+use Rattle.grouping.specs.declared.Refused.{Refused}
+use Rattle.grouping.specs.declared.Refused.TheVariants.{Unread, Untaken}
+use Rattle.grouping.specs.declared.Step.TheVariants.{Repeat, Stray, Hold, Unit}
+use Rattle.grouping.specs.Steps.{Outcome}
 use Rattle.intake.specs.declared.Answer.{Answer}
 use Rattle.intake.specs.declared.Answer.TheVariants as answer
 use Rattle.intake.specs.declared.Answered.{Answered}
@@ -40,52 +45,52 @@ closes_lane =
     (λ g refused. let left = refused_closing_leaves g.state g.lane (length g.pool) g.out refused in λ i. (left.0 i, left.1 i))
 
 -- ---- a packet: what an answer tells can be read back
-abbrev as_told : List ℕ → Answer
-as_told [] = answer.Repeat
-as_told (number ∷ []) = answer.Refused number
-as_told (number ∷ place ∷ []) = answer.Unread number place
-as_told (number ∷ kind ∷ missing ∷ []) = answer.Repeat
-as_told (number ∷ kind ∷ missing ∷ givenUp ∷ []) =
-    cond (eqb kind 1) answer.Repeat (cond (eqb kind 2) (answer.Stray missing (eqb givenUp 1)) (answer.Held missing (eqb givenUp 1)))
-as_told (number ∷ kind ∷ missing ∷ givenUp ∷ octets ∷ more) = answer.Unit octets missing (eqb givenUp 1)
+abbrev as_told : List ℕ → Result Answer Refused
+as_told [] = Ok answer.Repeat
+as_told (k ∷ []) = Err (Untaken (named k))
+as_told (k ∷ place ∷ []) = Err (Unread (record { refusal = named k; place = place }))
+as_told (k ∷ kind ∷ missing ∷ []) = Ok answer.Repeat
+as_told (k ∷ kind ∷ missing ∷ givenUp ∷ []) =
+    cond (eqb kind 1) (Ok answer.Repeat) (cond (eqb kind 2) (Ok (answer.Stray missing (eqb givenUp 1))) (Ok (answer.Held missing (eqb givenUp 1))))
+as_told (k ∷ kind ∷ missing ∷ givenUp ∷ octets ∷ more) = Ok (answer.Unit octets missing (eqb givenUp 1))
 
-read_back : (a : Answer) → as_told (told a) ≡ a
+read_back : (a : Result Answer Refused) → as_told (told a) ≡ a
 unfolding one
-read_back (answer.Refused k) = refl
-read_back (answer.Unread k q) = refl
-read_back answer.Repeat = refl
-read_back (answer.Stray m true) = refl
-read_back (answer.Stray m false) = refl
-read_back (answer.Held m true) = refl
-read_back (answer.Held m false) = refl
-read_back (answer.Unit n m true) = refl
-read_back (answer.Unit n m false) = refl
+read_back (Err (Untaken r)) = ap (λ q. Err (Untaken q)) (of_its_number r)
+read_back (Err (Unread u)) = ap (λ q. Err (Unread (record { refusal = q; place = u.place }))) (of_its_number u.refusal)
+read_back (Ok answer.Repeat) = refl
+read_back (Ok (answer.Stray m true)) = refl
+read_back (Ok (answer.Stray m false)) = refl
+read_back (Ok (answer.Held m true)) = refl
+read_back (Ok (answer.Held m false)) = refl
+read_back (Ok (answer.Unit n m true)) = refl
+read_back (Ok (answer.Unit n m false)) = refl
 
-pub told_fixes : (a b : Answer) → told a ≡ told b → a ≡ b
+pub told_fixes : (a b : Result Answer Refused) → told a ≡ told b → a ≡ b
 told_fixes a b same = sym (read_back a) ∙ ap as_told same ∙ read_back b
 
-begins : (d : Step) → leading (telling d) ≡ refusal_of d
-begins (Refuse k) = refl
-begins (Unread k q) = refl
-begins Repeat = refl
-begins (Stray a) = refl
-begins (Hold a on n) = refl
-begins (Unit a on n) = refl
+begins : (d : Outcome) → leading (telling d) ≡ refusal_of d
+begins (Err (Unread u)) = refl
+begins (Err (Untaken r)) = refl
+begins (Ok Repeat) = refl
+begins (Ok (Stray a)) = refl
+begins (Ok (Hold a on n)) = refl
+begins (Ok (Unit a on n)) = refl
 
-abbrev step_of : Taking → Step
+abbrev step_of : Taking → Outcome
 step_of g = packet_step g.state g.lane g.packet (length g.pool) (length g.out)
 
 ordered : Ordered take_packet_entry
 ordered g = begins (step_of g) ∙ packet_order g.state g.shaped g.lane g.packet (length g.pool) (length g.out)
 
 -- a step that refuses leaves all as it was
-left_by : (g : Taking) (d : Step) → step_of g ≡ d → (leading (telling d) ≡ 0 → ⊥) → Untouched g.state g.lane g.packet g.pool g.out
-left_by g (Refuse k) e h = refused_leaves g.state g.lane g.packet g.pool g.out k e
-left_by g (Unread k q) e h = unread_leaves g.state g.lane g.packet g.pool g.out k q e
-left_by g Repeat e h = absurd (h refl)
-left_by g (Stray a) e h = absurd (h refl)
-left_by g (Hold a on n) e h = absurd (h refl)
-left_by g (Unit a on n) e h = absurd (h refl)
+left_by : (g : Taking) (d : Outcome) → step_of g ≡ d → (leading (telling d) ≡ 0 → ⊥) → Untouched g.state g.lane g.packet g.pool g.out
+left_by g (Err (Untaken r)) e h = refused_leaves g.state g.lane g.packet g.pool g.out r e
+left_by g (Err (Unread u)) e h = unread_leaves g.state g.lane g.packet g.pool g.out u e
+left_by g (Ok Repeat) e h = absurd (h refl)
+left_by g (Ok (Stray a)) e h = absurd (h refl)
+left_by g (Ok (Hold a on n)) e h = absurd (h refl)
+left_by g (Ok (Unit a on n)) e h = absurd (h refl)
 
 left_if_refused : (g : Taking) → (number_for take_packet_entry g ≡ 0 → ⊥) → take_packet_entry.leaves g ≡ take_packet_entry.before g
 left_if_refused g refused =
@@ -103,13 +108,13 @@ pub same_answered : (g : Taking) (r : Answered) → told r.answer ≡ take_packe
 same_answered g r same state i = record { answer = told_fixes r.answer (taking_of g).answer (same ∙ sym (answer_of_taking g)) i; state = state i }
 
 -- in numbers: the refusal is the answer's
-same_number : (d : Step) → (inNumbers (answer_of d)).refusal ≡ leading (telling d)
-same_number (Refuse k) = refl
-same_number (Unread k q) = refl
-same_number Repeat = refl
-same_number (Stray a) = refl
-same_number (Hold a on n) = refl
-same_number (Unit a on n) = refl
+same_number : (d : Outcome) → (inNumbers (answer_of d)).refusal ≡ leading (telling d)
+same_number (Err (Unread u)) = refl
+same_number (Err (Untaken r)) = refl
+same_number (Ok Repeat) = refl
+same_number (Ok (Stray a)) = refl
+same_number (Ok (Hold a on n)) = refl
+same_number (Ok (Unit a on n)) = refl
 
 pub takes_packet_C : Asked take_packet_c
 unfolding numbered taking

@@ -18,7 +18,7 @@ use Rattle.entries.specs.Exported.{Name, told_numbered}
 use Rattle.entries.specs.Contract.{Promises}
 use Rattle.entries.specs.Functions.{the_entry, function}
 use Rattle.entries.specs.Views.{view, Permitted}
-use Rattle.entries.proofs.EachEntry.{same_walk, one_fixes}
+use Rattle.entries.proofs.EachEntry.{found_told, found_again, same_walk, one_fixes}
 use Rattle.entries.proofs.LaneEntries.{same_answered, same_numbered}
 use Rattle.entries.proofs.FrameEntries.{same_framed}
 use Rattle.entries.proofs.Plain.{in_words, two, three, four}
@@ -37,7 +37,7 @@ promised name.read_packet κs a h M 𝓤 𝓛 mem run = in_words 𝓤 (λ r s. (
 promised name.data_of κs a h M 𝓤 𝓛 mem run =
     two 𝓤 ∙ in_words 𝓤 (λ r s. (λ c. (λ i. 0 ∷ c.1.0 i ∷ c.1.1 i ∷ c.0 i, refl), λ p. let e = p.0 in (cc, (cc, cc))))
 promised name.look_at κs a h M 𝓤 𝓛 mem run =
-    in_words 𝓤 (λ r s. (λ c. (λ i. c.number i ∷ c.place i ∷ c.tells i, refl), λ p. let e = p.0 in record { tells = cc; number = cc; place = cc }))
+    in_words 𝓤 (λ r s. (let g = (view name.look_at).given κs a h in (λ c. (found_told g.octets g.at r c, refl), λ p. found_again g.octets g.at r p.0)))
 promised name.walk κs a h M 𝓤 𝓛 mem run = in_words 𝓤 (λ r s. (λ c. (ap told_walked c, refl), λ p. same_walk _ _ p.0))
 promised name.write_space κs a h M 𝓤 𝓛 mem run = two 𝓤
 promised name.write_encapsulation κs a h M 𝓤 𝓛 mem run = two 𝓤

@@ -72,16 +72,6 @@ use Rattle.putting.specs.contracts.put_be16 as PutBe16
 use Rattle.putting.proofs.put_be16.Symbol as PutBe16Code
 use Rattle.putting.specs.contracts.put_be32 as PutBe32
 use Rattle.putting.proofs.put_be32.Symbol as PutBe32Code
-use Rattle.numbers.specs.contracts.one_if as OneIf
-use Rattle.numbers.proofs.one_if.Symbol as OneIfCode
-use Rattle.numbers.specs.contracts.smaller as SmallerOf
-use Rattle.numbers.proofs.smaller.Symbol as SmallerOfCode
-use Rattle.numbers.specs.contracts.larger as LargerOf
-use Rattle.numbers.proofs.larger.Symbol as LargerOfCode
-use Rattle.packet.specs.contracts.number_of as NumberOf
-use Rattle.packet.proofs.number_of.Symbol as NumberOfCode
-use Rattle.packet.specs.contracts.place_of as PlaceOf
-use Rattle.packet.proofs.place_of.Symbol as PlaceOfCode
 use Rattle.packet.specs.contracts.header_of as HeaderOf
 use Rattle.packet.proofs.header_of.Symbol as HeaderOfCode
 use Rattle.packet.specs.contracts.size_of as SizeOf
@@ -128,8 +118,6 @@ use Rattle.text.specs.contracts.put_decimal as PutDecimal
 use Rattle.text.proofs.put_decimal.Symbol as PutDecimalCode
 use Rattle.text.specs.contracts.put_numbers as PutNumbers
 use Rattle.text.proofs.put_numbers.Symbol as PutNumbersCode
-use Rattle.listing.specs.contracts.octets_of as OctetsOf
-use Rattle.listing.proofs.octets_of.Symbol as OctetsOfCode
 use Rattle.listing.specs.contracts.written as WrittenPart
 use Rattle.listing.proofs.written.Symbol as WrittenPartCode
 use Rattle.adler.specs.contracts.adler32 as AdlerOf
@@ -158,14 +146,14 @@ pub data Public : Type 0 where
   the_entry : Name → Public
   octet_at be16_at be32_at : Public
   put_octets put_octet put_be16 put_be32 : Public
-  one_if smaller larger number_of place_of header_of size_of : Public
+  header_of size_of : Public
   sizes_in judge_joined read_on : Public
   is_possible front_record : Public
   blocks_for find_from grant_blocks free_blocks marks_match store_octets gather_octets : Public
   need_of is_illegal is_fine plan_packet : Public
   is_within is_unsound : Public
   put put_decimal put_numbers : Public
-  octets_of written : Public
+  written : Public
   is_ready put_line put_bad put_last : Public
   adler32 begin call_in replay_some tell_next : Public
 
@@ -215,11 +203,6 @@ function put_octets = valued PutOctets.ended (λ M 𝓤. PutOctets.clauses) PutO
 function put_octet = valued PutOctet.ended (λ M 𝓤. PutOctet.clauses) PutOctetCode.name PutOctetCode.code
 function put_be16 = valued PutBe16.ended (λ M 𝓤. PutBe16.clauses) PutBe16Code.name PutBe16Code.code
 function put_be32 = valued PutBe32.ended (λ M 𝓤. PutBe32.clauses) PutBe32Code.name PutBe32Code.code
-function one_if = valued OneIf.ended (λ M 𝓤. OneIf.clauses) OneIfCode.name OneIfCode.code
-function smaller = valued SmallerOf.ended (λ M 𝓤. SmallerOf.clauses) SmallerOfCode.name SmallerOfCode.code
-function larger = valued LargerOf.ended (λ M 𝓤. LargerOf.clauses) LargerOfCode.name LargerOfCode.code
-function number_of = valued NumberOf.ended (λ M 𝓤. NumberOf.clauses) NumberOfCode.name NumberOfCode.code
-function place_of = valued PlaceOf.ended (λ M 𝓤. PlaceOf.clauses) PlaceOfCode.name PlaceOfCode.code
 function header_of = valued HeaderOf.ended (λ M 𝓤. HeaderOf.clauses) HeaderOfCode.name HeaderOfCode.code
 function size_of = valued SizeOf.ended (λ M 𝓤. SizeOf.clauses) SizeOfCode.name SizeOfCode.code
 function sizes_in = valued SizesIn.ended (λ M 𝓤. SizesIn.clauses) SizesInCode.name SizesInCode.code
@@ -243,7 +226,6 @@ function is_unsound = valued IsUnsound.ended (λ M 𝓤. IsUnsound.clauses) IsUn
 function put = valued PutText.ended (λ M 𝓤. PutText.clauses) PutTextCode.name PutTextCode.code
 function put_decimal = valued PutDecimal.ended (λ M 𝓤. PutDecimal.clauses) PutDecimalCode.name PutDecimalCode.code
 function put_numbers = valued PutNumbers.ended (λ M 𝓤. PutNumbers.clauses) PutNumbersCode.name PutNumbersCode.code
-function octets_of = valued OctetsOf.ended (λ M 𝓤. OctetsOf.clauses) OctetsOfCode.name OctetsOfCode.code
 function written =
     record { ended = WrittenPart.ended; clauses = λ M 𝓤. WrittenPart.clauses; name = WrittenPartCode.name; code = WrittenPartCode.code; alike = λ κs r q. (r.ref_ptr ≡ q.ref_ptr) × (r.now ≡ q.now) }
 function is_ready = valued IsReady.ended (λ M 𝓤. IsReady.clauses) IsReadyCode.name IsReadyCode.code

@@ -16,7 +16,11 @@ use Rattle.pool.specs.Octets.{place}
 use Rattle.lane.specs.declared.Lane.{Lane}
 use Rattle.state.specs.State.{lane_at}
 use Rattle.intake.specs.declared.Answer.{Answer}
-use Rattle.intake.specs.declared.Answer.TheVariants.{Refused, Stray, Held, Unit}
+use Rattle.intake.specs.declared.Answer.TheVariants.{Stray, Held, Unit}
+use Rattle.std.specs.Prelude.{Result, Ok, Err}
+use Rattle.refusal.specs.Refusal.{named}
+use Rattle.grouping.specs.declared.Refused.{Refused}
+use Rattle.grouping.specs.declared.Refused.TheVariants.{Untaken}
 use Rattle.rule.specs.Rule.{Taken, taken_of, repeats, missing, answer_with, answer_to, unit, group, gives_up, with_unit}
 use Rattle.rule.specs.Rule as rule
 use Rattle.calls.specs.Groups.{group_in}
@@ -83,7 +87,7 @@ refuses_all_but_the_first n h d =
 answers_constantly : IsShutOut Demand2 AnswersConstantly
 unfolding running
 answers_constantly n h d =
-    let e : some (Held 0 false) ≡ some (Unit 1 0 false) =
+    let e : ◌≡◌ {A = Option (Result Answer Refused)} (some (Ok (Held 0 false))) (some (Ok (Unit 1 0 false))) =
     sym (ap answer_in (replies_as n d zeros just_opened (takes 0 first' (room 1)))) ∙ h zeros just_opened 0 first' whole (room 1)
     ∙ ap answer_in (replies_as n d zeros just_opened (takes 0 whole (room 1))) in
     let z : ◌≡◌ {A = ℕ} 0 1 = cc in omega arith
@@ -131,7 +135,7 @@ in_its_share n h d =
     true≢false (sym (h zeros just_opened 0 first' []) ∙ d.room_in_share zeros just_opened 0 first' [] (rw past (refl, refl, omega arith, omega arith)) (rw past (omega arith)))
 
 -- ---- made-up numbers: a reply that isn't a refusal is the rule's
-some_missing : (u open' : Option (List ℕ)) (m tells : ℕ) (givenUp : Bool) (out : List ℕ) → missing_told (to_packet (answer_with u open' m givenUp) out) ≡ some tells → m ≡ tells
+some_missing : (u open' : Option (List ℕ)) (m tells : ℕ) (givenUp : Bool) (out : List ℕ) → missing_told (to_packet (Ok (answer_with u open' m givenUp)) out) ≡ some tells → m ≡ tells
 some_missing (some octets) open' m tells givenUp out e = cc
 some_missing none (some octets) m tells givenUp out e = cc
 some_missing none none m tells givenUp out e = cc
@@ -196,18 +200,18 @@ abbrev calling : (Handed → Call → Reply) → (Handed → Call → Handed) �
 calling = varied ours.reads
 
 -- one answer to every packet, and else the promised replies
-saying : Answer → Handed → Call → Reply
+saying : Result Answer Refused → Handed → Call → Reply
 saying answer x (opens i settings) = reply x (opens i settings)
 saying answer x (takes i packet out) = to_packet answer out
 saying answer x (closes i out) = reply x (closes i out)
 
-abbrev says : Answer → AnyIntake
+abbrev says : Result Answer Refused → AnyIntake
 says answer = calling (saying answer) after
 
 -- the first packet of a lane is handled, and every later one refused
 refusing : Handed → Call → Reply
 refusing x (opens i settings) = reply x (opens i settings)
-refusing x (takes i packet out) = cond (eqb (lane_at x.state i).packets 0) (reply x (takes i packet out)) (to_packet (Refused 19) out)
+refusing x (takes i packet out) = cond (eqb (lane_at x.state i).packets 0) (reply x (takes i packet out)) (to_packet (Err (Untaken (named 19))) out)
 refusing x (closes i out) = reply x (closes i out)
 
 abbrev refuses : AnyIntake
@@ -236,7 +240,7 @@ abbrev nods : AnyIntake
 nods = calling reply nodding
 
 -- after the opening no packet is missing, and the credit begins with the station 7
-missing_made_up : MakesUpMissing (says (Stray 1 false))
+missing_made_up : MakesUpMissing (says (Ok (Stray 1 false)))
 unfolding remembering saying
 missing_made_up = record {
   start = zeros;
@@ -264,12 +268,12 @@ credit_made_up = record {
 pub can_be_written : CanBeWritten
 unfolding saying refusing nodding
 can_be_written = record {
-  refuses_everything = (says (Refused 19), λ start calls i packet out. refl);
+  refuses_everything = (says (Err (Untaken (named 19))), λ start calls i packet out. refl);
   refuses_all_but_the_first = (refuses, λ start calls i packet out some. simp (ne_eqb (lane_at (run refuses (begun start) calls).state i).packets 0 (λ z. omega arith)));
-  answers_constantly = (says (Held 0 false), λ start calls i packet other out. refl);
+  answers_constantly = (says (Ok (Held 0 false)), λ start calls i packet other out. refl);
   reads_constantly = (varied (λ s. []) reply after, λ s other. refl);
   stores_nothing = (forgets, λ start calls c. refl);
   only_nods = (nods, λ start calls i packet out some. simp (ne_eqb (lane_at (run nods (begun start) calls).state i).packets 0 (λ z. omega arith)));
-  makes_up_missing = (says (Stray 1 false), missing_made_up);
+  makes_up_missing = (says (Ok (Stray 1 false)), missing_made_up);
   makes_up_credit = (credits, credit_made_up);
 }

@@ -1,6 +1,6 @@
 -- Runs that show what the demands are about. Each is written out with what it is replied, by the paper; that the definitions reply so is computed
 -- (proofs/Examples.antt).
-use Rattle.std.specs.Prelude.{ℕ, ◌≤◌, ◌<◌, ◌≡◌, true, false, List, [], ◌∷◌, ◌++◌, length, get_or, replicate}
+use Rattle.std.specs.Prelude.{ℕ, ◌≤◌, ◌<◌, ◌≡◌, true, false, List, [], ◌∷◌, ◌++◌, length, get_or, replicate, Result, Ok, Err}
 use Rattle.std.proofs.lemmas.List.{length-replicate}
 use Rattle.octets.specs.Octets.{octet}
 use Rattle.writing.specs.Space.{space_octets}
@@ -11,7 +11,11 @@ use Rattle.lane.specs.declared.Settings.{Settings}
 use Rattle.lane.specs.declared.Lane.{Lane}
 use Rattle.rule.specs.Rule.{taken_of, repeats}
 use Rattle.state.specs.declared.State.{State}
-use Rattle.intake.specs.declared.Answer.TheVariants.{Refused, Unread, Repeat, Stray, Held, Unit}
+use Rattle.refusal.specs.Refusal.{named}
+use Rattle.grouping.specs.declared.Refused.{Refused}
+use Rattle.grouping.specs.declared.Refused.TheVariants.{Unread, Untaken}
+use Rattle.intake.specs.declared.Answer.{Answer}
+use Rattle.intake.specs.declared.Answer.TheVariants.{Repeat, Stray, Held, Unit}
 use Rattle.demands.specs.Runs.{ours, Handed, Start, begun, Call, opens, takes, closes, Reply, to_opening, to_packet, to_closing, after, run, replies, own, replies_to}
 use Rattle.calls.specs.Order.{would_hold}
 use Rattle.demands.specs.Past.{accepted_in, lane_from, lanes_from, past_of}
@@ -19,6 +23,13 @@ use Rattle.demands.specs.Demand3.{StaysInShare, NoneUnpromised, NothingAmiss, Ha
 use Rattle.demands.specs.WhoseFault.{packet_number, OthersClosed}
 use Rattle.demands.specs.WhichOctet.{RefusedAt}
 use Rattle.places.specs.AtFault.{head}
+
+-- a packet is refused by a number, and by the reader's with its place
+abbrev pub refused : ℕ → Result Answer Refused
+refused number = Err (Untaken (named number))
+
+abbrev pub unread : ℕ → ℕ → Result Answer Refused
+unread number place = Err (Unread (record { refusal = named number; place = place }))
 
 -- two starts, with different content in the pool: one octet all over
 abbrev filled : ℕ → Start
@@ -97,14 +108,14 @@ interleaved =
 abbrev pub told_lane0 : List Reply
 told_lane0 =
     to_opening 0
-    ∷ to_packet (Held 0 false) (room 6)
-    ∷ to_packet (Held 0 false) (room 6)
-    ∷ to_packet Repeat (room 6)
-    ∷ to_packet (Refused 20) (room 4)
-    ∷ to_packet (Unit 5 0 false) (1 ∷ 2 ∷ 3 ∷ 4 ∷ 5 ∷ 9 ∷ [])
-    ∷ to_packet (Held 0 false) (room 6)
-    ∷ to_packet (Stray 3 true) (room 6)
-    ∷ to_packet (Held 0 false) (room 6)
+    ∷ to_packet (Ok (Held 0 false)) (room 6)
+    ∷ to_packet (Ok (Held 0 false)) (room 6)
+    ∷ to_packet (Ok Repeat) (room 6)
+    ∷ to_packet (refused 20) (room 4)
+    ∷ to_packet (Ok (Unit 5 0 false)) (1 ∷ 2 ∷ 3 ∷ 4 ∷ 5 ∷ 9 ∷ [])
+    ∷ to_packet (Ok (Held 0 false)) (room 6)
+    ∷ to_packet (Ok (Stray 3 true)) (room 6)
+    ∷ to_packet (Ok (Held 0 false)) (room 6)
     ∷ to_closing 0 (0 ∷ 7 ∷ 0 ∷ 42 ∷ 0 ∷ 0 ∷ 0 ∷ 1 ∷ 0 ∷ 0 ∷ 0 ∷ 6 ∷ 0 ∷ 0 ∷ 0 ∷ 3 ∷ 0 ∷ 0 ∷ 0 ∷ 2 ∷ 9 ∷ [])
     ∷ []
 
@@ -113,14 +124,14 @@ told_lane0 =
 abbrev pub told_lane1 : List Reply
 told_lane1 =
     to_opening 0
-    ∷ to_packet (Held 0 false) (room 3)
-    ∷ to_packet (Unit 2 0 false) (50 ∷ 51 ∷ 9 ∷ [])
+    ∷ to_packet (Ok (Held 0 false)) (room 3)
+    ∷ to_packet (Ok (Unit 2 0 false)) (50 ∷ 51 ∷ 9 ∷ [])
     ∷ to_closing 0 (0 ∷ 8 ∷ 0 ∷ 43 ∷ 0 ∷ 0 ∷ 0 ∷ 1 ∷ 0 ∷ 0 ∷ 0 ∷ 2 ∷ 0 ∷ 0 ∷ 0 ∷ 0 ∷ 0 ∷ 0 ∷ 0 ∷ 0 ∷ [])
     ∷ to_opening 0
-    ∷ to_packet (Unit 2 0 false) (60 ∷ 61 ∷ 9 ∷ [])
-    ∷ to_packet (Held 0 false) (room 3)
-    ∷ to_packet (Unit 1 0 false) (62 ∷ 9 ∷ 9 ∷ [])
-    ∷ to_packet (Stray 2 false) (room 3)
+    ∷ to_packet (Ok (Unit 2 0 false)) (60 ∷ 61 ∷ 9 ∷ [])
+    ∷ to_packet (Ok (Held 0 false)) (room 3)
+    ∷ to_packet (Ok (Unit 1 0 false)) (62 ∷ 9 ∷ 9 ∷ [])
+    ∷ to_packet (Ok (Stray 2 false)) (room 3)
     ∷ to_closing 0 (0 ∷ 8 ∷ 0 ∷ 43 ∷ 0 ∷ 0 ∷ 0 ∷ 2 ∷ 0 ∷ 0 ∷ 0 ∷ 4 ∷ 0 ∷ 0 ∷ 0 ∷ 2 ∷ 0 ∷ 0 ∷ 0 ∷ 0 ∷ [])
     ∷ []
 
@@ -133,10 +144,10 @@ crowded =
     ∷ []
 
 abbrev pub told_crowded : List Reply
-told_crowded = to_opening 0 ∷ to_packet (Refused 27) [] ∷ []
+told_crowded = to_opening 0 ∷ to_packet (refused 27) [] ∷ []
 
 abbrev pub told_uncrowded : List Reply
-told_uncrowded = to_opening 0 ∷ to_packet (Held 0 false) [] ∷ []
+told_uncrowded = to_opening 0 ∷ to_packet (Ok (Held 0 false)) [] ∷ []
 
 -- ---- an opening is refused for want of a promisable share in company and not alone: all 64 blocks are promised to lane 1
 abbrev pub unpromised : List Call
@@ -175,11 +186,11 @@ abbrev pub told_all64 : List Reply
 told_all64 =
     to_opening 0
     ∷ to_opening 0
-    ∷ to_packet (Held 0 false) []
-    ∷ to_packet (Refused 27) []
+    ∷ to_packet (Ok (Held 0 false)) []
+    ∷ to_packet (refused 27) []
     ∷ to_closing 0 (0 ∷ 7 ∷ 0 ∷ 42 ∷ 0 ∷ 0 ∷ 0 ∷ 0 ∷ 0 ∷ 0 ∷ 0 ∷ 1 ∷ 0 ∷ 0 ∷ 0 ∷ 0 ∷ 0 ∷ 0 ∷ 0 ∷ 1 ∷ [])
-    ∷ to_packet (Held 0 false) []
-    ∷ to_packet (Unit 1 0 true) (3 ∷ 9 ∷ [])
+    ∷ to_packet (Ok (Held 0 false)) []
+    ∷ to_packet (Ok (Unit 1 0 true)) (3 ∷ 9 ∷ [])
     ∷ []
 
 -- how many blocks are free before the calls and after each
@@ -208,10 +219,10 @@ abbrev pub told_shares20 : List Reply
 told_shares20 =
     to_opening 0
     ∷ to_opening 0
-    ∷ to_packet (Refused 27) []
-    ∷ to_packet (Held 0 false) []
-    ∷ to_packet (Refused 27) []
-    ∷ to_packet (Held 0 false) []
+    ∷ to_packet (refused 27) []
+    ∷ to_packet (Ok (Held 0 false)) []
+    ∷ to_packet (refused 27) []
+    ∷ to_packet (Ok (Held 0 false)) []
     ∷ []
 
 -- ---- packets that meet the hypotheses of RoomInShare, GetsRoom and UsedAgain
@@ -271,11 +282,11 @@ abbrev pub told_whose_fault : List Reply
 told_whose_fault =
     to_opening 0
     ∷ to_opening 0
-    ∷ to_packet (Refused 19) []
-    ∷ to_packet (Refused 27) []
+    ∷ to_packet (refused 19) []
+    ∷ to_packet (refused 27) []
     ∷ to_closing 0 (0 ∷ 7 ∷ 0 ∷ 42 ∷ 0 ∷ 0 ∷ 0 ∷ 0 ∷ 0 ∷ 0 ∷ 0 ∷ 0 ∷ 0 ∷ 0 ∷ 0 ∷ 0 ∷ 0 ∷ 0 ∷ 0 ∷ 0 ∷ [])
-    ∷ to_packet (Refused 19) []
-    ∷ to_packet (Held 0 false) []
+    ∷ to_packet (refused 19) []
+    ∷ to_packet (Ok (Held 0 false)) []
     ∷ []
 
 -- so the hypotheses of NoOtherDecides, HeldIfOthersClosed and Never27BesideClosed are met
@@ -306,11 +317,11 @@ which_octet =
 abbrev pub told_which_octet : List Reply
 told_which_octet =
     to_opening 0
-    ∷ to_packet (Unread 1 2) []
-    ∷ to_packet (Unread 4 2) []
-    ∷ to_packet (Unread 7 1) []
-    ∷ to_packet (Refused 13) []
-    ∷ to_packet (Refused 11) []
+    ∷ to_packet (unread 1 2) []
+    ∷ to_packet (unread 4 2) []
+    ∷ to_packet (unread 7 1) []
+    ∷ to_packet (refused 13) []
+    ∷ to_packet (refused 11) []
     ∷ []
 
 -- so the hypotheses of EachIsHonest, HeaderDecides and PassedOn are met; its content is another in the second

@@ -1,11 +1,12 @@
 -- The intakes that the paper shuts out, and one more. What each of them does is said here of its own runs from a fresh start; that none of them meets the very demand that the
 -- paper names for it is proved (proofs/ShutOut.antt).
-use Rattle.std.specs.Prelude.{ℕ, ◌<◌, ◌≡◌, true, cond, List, [], ◌∷◌, get_or, ltb}
+use Rattle.std.specs.Prelude.{ℕ, ◌<◌, ◌≡◌, true, cond, List, [], ◌∷◌, get_or, ltb, Result}
 use Rattle.std.proofs.Math.Option.{Option, none, some}
 use Rattle.octets.specs.Output.{put}
 use Rattle.record.specs.Record.{record_octets}
 use Rattle.lane.specs.declared.Lane.{Lane}
 use Rattle.state.specs.State.{lane_at}
+use Rattle.grouping.specs.declared.Refused.{Refused}
 use Rattle.intake.specs.declared.Answer.{Answer}
 use Rattle.intake.specs.Told.{told, repeat_kind}
 use Rattle.rule.specs.Rule.{taken_of, missing, credit}
@@ -24,7 +25,7 @@ RefusesAllButTheFirst n =
     InEveryRun n (λ x past. (i : ℕ) (packet out : List ℕ) → 0 < (lane_at x.state i).packets → is_refused (n.reply_to x (takes i packet out)) ≡ true)
 
 -- ---- one constant answer: at each point of a run all packets get one answer, whatever is in them
-abbrev pub answer_in : Reply → Option Answer
+abbrev pub answer_in : Reply → Option (Result Answer Refused)
 answer_in (to_opening refusal) = none
 answer_in (to_packet answer out) = some answer
 answer_in (to_closing refusal out) = none

@@ -8,7 +8,7 @@ use lib.ListN.{length, take, drop, length-append, length-drop}
 use lib.Seq.{take-add, length-take-le}
 use Rattle.octets.specs.Output.{put, put_if_fits}
 use Rattle.octets.proofs.Puts.{put_fits, first_put, then_put, nothing}
-use Rattle.pieces.proofs.Parts.{to_the_end}
+use Rattle.std.proofs.lemmas.List.{take_rest}
 
 -- ---- the packets in the output
 module _ (piece field out : List ℕ) {from to : ℕ} (h : (from ≤ to) × (to ≤ length field) × (length piece + to ≤ length out)) where
@@ -61,4 +61,4 @@ module _ (field buffer : List ℕ) where
   pub left_over : (to : ℕ) {f : List ℕ} → length field ≤ length buffer → f ≡ put_if_fits buffer 0 (take (length field - to) (drop to field)) → Kept (drop to field) f (length field - to)
   left_over to h p =
       let n = length-drop to field in
-      (sym n, p ∙ ap (put_if_fits buffer 0) (to_the_end field to) ∙ sym (put_fits buffer 0 (drop to field) (omega (arith, n))))
+      (sym n, p ∙ ap (put_if_fits buffer 0) (take_rest field to) ∙ sym (put_fits buffer 0 (drop to field) (omega (arith, n))))

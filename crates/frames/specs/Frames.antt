@@ -1,12 +1,18 @@
 -- A frame is taken: what it does to the piece that the frames before it left, which packets come out, and what is left of it.
-use Rattle.std.specs.Prelude.{ℕ, ◌+◌, ◌%◌, List, [], ◌∷◌, ◌++◌, Bool, true, false, cond, not, ◌&&◌, ◌||◌, length, take, eqb, ltb, leb}
+use Rattle.std.specs.Prelude.{ℕ, ◌+◌, ◌%◌, List, [], ◌∷◌, ◌++◌, Bool, true, false, cond, not, ◌&&◌, ◌||◌, ◌-◌, ◌≡◌, length, take, drop, eqb, ltb, leb, Result, Ok, Err}
 use Rattle.octets.specs.Octets.{one}
 use Rattle.octets.specs.Order.{Test, ◌gives◌, first, numbers_of}
 use Rattle.octets.specs.Output.{put}
 use Rattle.walk.specs.Walk.{places, end}
+use Rattle.refusal.specs.Refusal.{number}
 use Rattle.pieces.specs.Pieces.{one_packet, unfinished, ahead, left, drops}
+use Rattle.pieces.specs.declared.Rest.{Rest}
 use Rattle.frames.specs.declared.Frames.{Frames}
 use Rattle.frames.specs.declared.Framed.{Framed}
+use Rattle.frames.specs.declared.plan.Goes.{Goes}
+use Rattle.frames.specs.declared.plan.Goes.TheVariants.{Finishes, Grows, Stops}
+use Rattle.frames.specs.declared.plan.Untaken.{Untaken}
+use Rattle.frames.specs.declared.plan.Untaken.TheVariants.{Refused, Repeat}
 
 -- ---- what is given: a field of 8 to 2,046 octets, its count, its first header pointer; a lent buffer of 8,192 octets, in which the unfinished piece lives, and an
 -- output of 10,238 at least
@@ -97,6 +103,27 @@ module _ (state : Frames) (count pointer : ℕ) (field piece : List ℕ) where
   unfoldable pub piece_after : List ℕ
   piece_after = cond grows joined (cond (drops field pointer) [] (left field pointer))
 
+  -- which of these it is; no piece does both
+  abbrev pub goes_to : Goes
+  goes_to = cond finishes Finishes (cond grows Grows Stops)
+
+-- ---- the same as the code has it, where the whole packets lie between two indices of the field
+abbrev pub finishing : Goes → Bool
+finishing Finishes = true
+finishing Grows = false
+finishing Stops = false
+
+abbrev pub growing : Goes → Bool
+growing Finishes = false
+growing Grows = true
+growing Stops = false
+
+abbrev pub packets_put : Goes → List ℕ → List ℕ → Rest → List ℕ
+packets_put g piece field rest = cond (finishing g) (piece ++ take rest.from field) [] ++ take (rest.to - rest.from) (drop rest.from field)
+
+abbrev pub piece_kept : Goes → List ℕ → List ℕ → Rest → List ℕ
+piece_kept g piece field rest = cond (growing g) (piece ++ field) (cond rest.dropped [] (drop rest.to field))
+
 -- ---- the answer: refused with its number; repeat; or taken
 abbrev pub refused_kind : ℕ
 refused_kind = 0
@@ -110,6 +137,16 @@ taken_kind = 2
 abbrev pub untaken : ℕ → ℕ → Frames → Framed
 untaken refusal kind state =
     record { refusal = refusal; kind = kind; given_up = false; dropped = false; packets = 0; octets = 0; state = state }
+
+abbrev pub untaken_by : Untaken → Frames → Framed
+untaken_by (Refused r) state = untaken (number r) refused_kind state
+untaken_by Repeat state = untaken 0 repeat_kind state
+
+-- why a frame is not taken, or that it is
+abbrev pub Checked : Frames → ℕ → ℕ → ℕ → ℕ → ℕ → Result (Unit {0}) Untaken → Type 0
+Checked state count pointer n b room (Ok u) = (frame_refusal state count pointer n b room ≡ 0) × (repeats state count ≡ false)
+Checked state count pointer n b room (Err (Refused r)) = number r ≡ frame_refusal state count pointer n b room
+Checked state count pointer n b room (Err Repeat) = (frame_refusal state count pointer n b room ≡ 0) × (repeats state count ≡ true)
 
 -- ---- a call: the state, the count, the pointer, the field, the lent buffer, and the room in the lent output
 module _ (state : Frames) (count pointer : ℕ) (field buffer : List ℕ) where

@@ -4,16 +4,16 @@
 
 mod plan;
 
-ghost use Rattle.std.specs.Prelude.{◌≡◌, true, cond, [], ◌++◌, ◌+◌, ◌-◌, ◌≤◌, length, take, drop};
+ghost use Rattle.std.specs.Prelude.{◌≡◌, true, cond, [], ◌++◌, ◌+◌, ◌≤◌, length, take};
 ghost use Rattle.octets.specs.Output.{put};
-ghost use Rattle.frames.specs.Frames.{fresh_frames, frame_refusal, piece_in, packets_out, piece_after, untaken, taken, framed, buffer_after, out_after};
+ghost use Rattle.frames.specs.Frames.{fresh_frames, frame_refusal, piece_in, packets_out, piece_after, growing, packets_put, piece_kept, untaken_by, taken, framed, buffer_after, out_after};
 
-use numbers::one_if;
-use pieces::read_on;
-use plan::{frame_refusal, is_repeat, plan_piece};
+use pieces::{Rest, read_on};
+use plan::{Frame, Goes, Untaken, check_frame, plan_piece};
 use putting::put_octets;
 
-// What the frames before left: whether there was one, its count, and the octets of the piece at the front of the lent buffer.
+// What the frames before left: whether there was one, its count, and the octets of the piece at the front of the lent buffer. The flag stands beside the count, and is no Option,
+// since this is the struct of include/branmuslin.h.
 #[repr(C)]
 #[derive(Clone, Copy)]
 pub struct Frames {
@@ -22,8 +22,16 @@ pub struct Frames {
     pub piece: usize,
 }
 
-// What a frame is answered. kind: 0 refused, 1 repeat, 2 taken; given_up: a piece was given up; dropped: the rest of the field was; packets and their octets
-// are those at the front of the output.
+// The kinds of what a frame is answered, with the numbers that C is told.
+#[derive(Clone, Copy)]
+pub enum Kind {
+    Refused = 0,
+    Repeat = 1,
+    Taken = 2,
+}
+
+// What a frame is answered. given_up: a piece was given up; dropped: the rest of the field was; packets and their octets are those at the front of the output. The refusal and
+// the kind are numbers, since this is the struct of include/branmuslin.h.
 #[repr(C)]
 #[derive(Clone, Copy)]
 pub struct Framed {
@@ -49,9 +57,13 @@ pub extern "C" fn branmuslin_fresh_frames() -> Frames
 }
 
 // The answer to a frame that changes nothing.
-fn not_taken(refusal: u8, kind: u8, state: Frames) -> Framed
-    ensures { result ≡ untaken refusal kind state }
+fn not_taken(why: Untaken, state: Frames) -> Framed
+    ensures { result ≡ untaken_by why state }
 {
+    let (refusal, kind) = match why {
+        Untaken::Refused(refusal) => (u8::from(refusal), Kind::Refused as u8),
+        Untaken::Repeat => (0, Kind::Repeat as u8),
+    };
     Framed {
         refusal,
         kind,
@@ -63,89 +75,64 @@ fn not_taken(refusal: u8, kind: u8, state: Frames) -> Framed
     }
 }
 
-// Puts the packets at the front of out: where the piece is finished, it and the field up to index to, which lie side by side; else the field between from and to.
-fn put_packets(
-    finishes: bool,
-    piece: &[u8],
-    field: &[u8],
-    from: usize,
-    to: usize,
-    out: &mut [u8],
-) -> usize
-    requires { (from ≤ to) × (to ≤ length field.now) × (length piece.now + to ≤ length out.old) }
-    ensures value { result ≡ length (cond finishes (piece.now ++ take from field.now) [] ++ take (to - from) (drop from field.now)) }
-    ensures out_after { out.new ≡ put out.old 0 (cond finishes (piece.now ++ take from field.now) [] ++ take (to - from) (drop from field.now)) }
+// Puts the packets at the front of out: where the piece is finished, it and the field up to the end of its packets, which lie side by side; else the packets of the field.
+fn put_packets(goes: Goes, piece: &[u8], field: &[u8], rest: Rest, out: &mut [u8]) -> usize
+    requires { (rest.from ≤ rest.to) × (rest.to ≤ length field.now) × (length piece.now + rest.to ≤ length out.old) }
+    ensures value { result ≡ length (packets_put goes piece.now field.now rest) }
+    ensures out_after { out.new ≡ put out.old 0 (packets_put goes piece.now field.now rest) }
 {
-    if finishes {
+    if goes.is_finished() {
         put_octets(out, 0, piece);
-        put_octets(out, piece.len(), &field[..to]);
-        return piece.len() + to;
+        put_octets(out, piece.len(), &field[..rest.to]);
+        return piece.len() + rest.to;
     }
-    put_octets(out, 0, &field[from..to]);
-    to - from
+    put_octets(out, 0, &field[rest.from..rest.to]);
+    rest.to - rest.from
 }
 
-// Puts the new piece at the front of the buffer, and tells its octets: a piece of so many that grows by the field; or what is left of the field from index to on, unless
-// that is dropped.
-fn keep_piece(
-    grows: bool,
-    kept: usize,
-    dropped: bool,
-    field: &[u8],
-    to: usize,
-    piece: &mut [u8],
-) -> usize
-    requires { (to ≤ length field.now) × (length field.now ≤ length piece.old) × (grows ≡ true → kept + length field.now ≤ length piece.old) }
-    ensures value { result ≡ length (cond grows (take kept piece.old ++ field.now) (cond dropped [] (drop to field.now))) }
-    ensures piece_after { piece.new ≡ put piece.old 0 (cond grows (take kept piece.old ++ field.now) (cond dropped [] (drop to field.now))) }
+// Puts the new piece at the front of the buffer, and tells its octets: a piece of so many that grows by the field; or what is left of the field after its packets, unless
+// that is dropped. How many octets the piece has stands beside its buffer, as it does in the state that C hands on.
+fn keep_piece(goes: Goes, kept: usize, field: &[u8], rest: Rest, piece: &mut [u8]) -> usize
+    requires { (rest.to ≤ length field.now) × (length field.now ≤ length piece.old) × (growing goes ≡ true → kept + length field.now ≤ length piece.old) }
+    ensures value { result ≡ length (piece_kept goes (take kept piece.old) field.now rest) }
+    ensures piece_after { piece.new ≡ put piece.old 0 (piece_kept goes (take kept piece.old) field.now rest) }
 {
-    if grows {
-        put_octets(piece, kept, field);
-        return kept + field.len();
+    match goes {
+        Goes::Grows => {
+            put_octets(piece, kept, field);
+            kept + field.len()
+        }
+        _ if rest.dropped => 0,
+        _ => {
+            put_octets(piece, 0, &field[rest.to..]);
+            field.len() - rest.to
+        }
     }
-    if dropped {
-        return 0;
-    }
-    put_octets(piece, 0, &field[to..]);
-    field.len() - to
 }
 
-// Takes a frame that is neither refused nor a repeat. What it does is known before anything is written.
-fn take_next(
-    state: Frames,
-    count: u32,
-    pointer: u32,
-    field: &[u8],
-    piece: &mut [u8],
-    out: &mut [u8],
-) -> Framed
-    requires { frame_refusal state count pointer (length field.now) (length piece.old) (length out.old) ≡ 0 }
-    ensures value { result ≡ taken state count pointer field.now piece.old }
-    ensures piece_after { piece.new ≡ put piece.old 0 (piece_after state count pointer field.now (piece_in state count pointer field.now piece.old)) }
-    ensures out_after { out.new ≡ put out.old 0 (packets_out state count pointer field.now (piece_in state count pointer field.now piece.old)) }
+// Takes a frame that is neither refused nor a repeat. What it does is known before anything is written. State, piece and output are handed on as C hands them in.
+fn take_next(state: Frames, frame: Frame<'_>, piece: &mut [u8], out: &mut [u8]) -> Framed
+    requires { frame_refusal state frame.count frame.pointer (length frame.field.now) (length piece.old) (length out.old) ≡ 0 }
+    ensures value { result ≡ taken state frame.entry.count frame.entry.pointer frame.entry.field.now piece.old }
+    ensures piece_after { piece.new ≡ put piece.old 0 (piece_after state frame.entry.count frame.entry.pointer frame.entry.field.now (piece_in state frame.entry.count frame.entry.pointer frame.entry.field.now piece.old)) }
+    ensures out_after { out.new ≡ put out.old 0 (packets_out state frame.entry.count frame.entry.pointer frame.entry.field.now (piece_in state frame.entry.count frame.entry.pointer frame.entry.field.now piece.old)) }
 {
     let kept = state.piece;
-    let goes = plan_piece(state, count, pointer, field, &piece[..kept]);
-    let rest = read_on(field, pointer as usize);
-    let octets = put_packets(
-        goes.finishes,
-        &piece[..kept],
-        field,
-        rest.from,
-        rest.to,
-        out,
-    );
-    let left = keep_piece(goes.grows, kept, rest.dropped, field, rest.to, piece);
+    let field = frame.field;
+    let goes = plan_piece(state, frame, &piece[..kept]);
+    let rest = read_on(field, frame.pointer as usize);
+    let octets = put_packets(goes, &piece[..kept], field, rest, out);
+    let left = keep_piece(goes, kept, field, rest, piece);
     Framed {
         refusal: 0,
-        kind: 2,
-        given_up: (kept != 0) & !(goes.finishes | goes.grows),
+        kind: Kind::Taken as u8,
+        given_up: (kept != 0) & goes.is_stopped(),
         dropped: rest.dropped,
-        packets: one_if(goes.finishes) as usize + rest.packets,
+        packets: usize::from(goes.is_finished()) + rest.packets,
         octets,
         state: Frames {
             started: true,
-            count: count as u8,
+            count: frame.count as u8,
             piece: left,
         },
     }
@@ -165,12 +152,13 @@ pub extern "C" fn branmuslin_take_frame(
     ensures piece_after { piece.new ≡ buffer_after state count pointer field.now piece.old (length out.old) }
     ensures out_after { out.new ≡ out_after state count pointer field.now piece.old out.old }
 {
-    let refusal = frame_refusal(state, count, pointer, field.len(), piece.len(), out.len());
-    if refusal != 0 {
-        return not_taken(refusal, 0, state);
+    let frame = Frame {
+        count,
+        pointer,
+        field,
+    };
+    match check_frame(state, frame, piece.len(), out.len()) {
+        Ok(()) => take_next(state, frame, piece, out),
+        Err(why) => not_taken(why, state),
     }
-    if is_repeat(state, count) {
-        return not_taken(0, 1, state);
-    }
-    take_next(state, count, pointer, field, piece, out)
 }

@@ -1,10 +1,12 @@
 // What a frame is to the state: refused, a repeat, out of step; and what it does to the piece.
-ghost use Rattle.std.specs.Prelude.{◌≡◌};
-ghost use Rattle.frames.specs.Frames.{wrong, frame_refusal, repeats, out_of_step, finishes, grows};
+ghost use Rattle.std.specs.Prelude.{◌≡◌, not, ◌||◌, length};
+ghost use Rattle.frames.specs.declared.plan.Untaken.TheVariants.{Refused};
+ghost use Rattle.pieces.specs.Pieces.{number_told};
+ghost use Rattle.frames.specs.Frames.{wrong, frame_refusal, repeats, out_of_step, goes_to, finishing, growing, Checked};
 
 use crate::Frames;
-use numbers::smaller;
-use pieces::judge_joined;
+use pieces::{Joined, judge_joined};
+use refusal::Refusal;
 
 const SHORTEST_FIELD: usize = 8;
 
@@ -24,74 +26,115 @@ const NO_PACKET: u32 = 2047;
 
 const IDLE_ONLY: u32 = 2046;
 
-fn is_wrong(state: Frames, count: u32, pointer: u32, n: usize, buffer: usize) -> bool
-    ensures { result ≡ wrong state count pointer n buffer }
+// A frame, as it is given: its count, its first header pointer and its data field.
+#[derive(Clone, Copy)]
+pub(crate) struct Frame<'a> {
+    pub count: u32,
+    pub pointer: u32,
+    pub field: &'a [u8],
+}
+
+// State, frame and buffer are what C hands in, and are handed on as they come.
+fn is_wrong(state: Frames, frame: Frame<'_>, buffer: usize) -> bool
+    ensures { result ≡ wrong state frame.entry.count frame.entry.pointer (length frame.entry.field.now) buffer }
 {
+    let n = frame.field.len();
+    let pointer = frame.pointer;
     ((n < SHORTEST_FIELD) | (LONGEST_FIELD < n) | (buffer != BUFFER))
-        | (COUNTS <= count)
+        | (COUNTS <= frame.count)
         | (!((pointer == IDLE_ONLY) | (pointer == NO_PACKET)) & (n <= pointer as usize))
         | (LONGEST_PIECE < state.piece)
 }
 
-// 28, then 9.
-pub(crate) fn frame_refusal(
-    state: Frames,
-    count: u32,
-    pointer: u32,
-    n: usize,
-    buffer: usize,
-    room: usize,
-) -> u8
-    ensures { result ≡ frame_refusal state count pointer n buffer room }
+// BadFrame, then NoRoom.
+fn refuse(state: Frames, frame: Frame<'_>, buffer: usize, room: usize) -> Result<(), Refusal>
+    ensures { number_told result ≡ frame_refusal state frame.entry.count frame.entry.pointer (length frame.entry.field.now) buffer room }
 {
-    if is_wrong(state, count, pointer, n, buffer) {
-        return 28;
+    if is_wrong(state, frame, buffer) {
+        return Err(Refusal::BadFrame);
     }
     if room < OUTPUT {
-        return 9;
+        return Err(Refusal::NoRoom);
     }
-    0
+    Ok(())
 }
 
-pub(crate) fn is_repeat(state: Frames, count: u32) -> bool
+fn is_repeat(state: Frames, count: u32) -> bool
     ensures { result ≡ repeats state count }
 {
-    state.started & (count == state.count as u32)
+    state.started & (count == u32::from(state.count))
 }
 
 fn is_out_of_step(state: Frames, count: u32) -> bool
     ensures { result ≡ out_of_step state count }
 {
-    state.started & (count != (state.count as u32 + 1) % COUNTS)
+    state.started & (count != (u32::from(state.count) + 1) % COUNTS)
 }
 
-// Whether the piece, with the octets before the pointer, is one packet, or the beginning of one in a field where no packet begins.
-#[derive(Drop)]
-pub(crate) struct Goes {
-    pub finishes: bool,
-    pub grows: bool,
+// Why a frame changes nothing.
+#[derive(Clone, Copy)]
+pub(crate) enum Untaken {
+    Refused(Refusal),
+    Repeat,
 }
 
-pub(crate) fn plan_piece(
-    state: Frames,
-    count: u32,
-    pointer: u32,
-    field: &[u8],
-    piece: &[u8],
-) -> Goes
-    ensures finishes_value { result.finishes ≡ finishes state count pointer field.now piece.now }
-    ensures grows_value { result.grows ≡ grows state count pointer field.now piece.now }
-{
-    if (state.piece == 0) | is_out_of_step(state, count) | (pointer == IDLE_ONLY) {
-        return Goes {
-            finishes: false,
-            grows: false,
-        };
+impl From<Refusal> for Untaken {
+    ghost from_gives = { λ r u. u ≡ Refused r };
+
+    fn from(r: Refusal) -> Untaken {
+        Untaken::Refused(r)
     }
-    let from = smaller(field.len(), pointer as usize);
-    let joined = judge_joined(piece, &field[..from]);
-    Goes {
-        finishes: joined.whole,
-        grows: (pointer == NO_PACKET) & joined.unfinished,
+}
+
+// Whether a frame is to be taken.
+pub(crate) fn check_frame(
+    state: Frames,
+    frame: Frame<'_>,
+    buffer: usize,
+    room: usize,
+) -> Result<(), Untaken>
+    ensures { Checked state frame.entry.count frame.entry.pointer (length frame.entry.field.now) buffer room result }
+{
+    refuse(state, frame, buffer, room)?;
+    if is_repeat(state, frame.count) {
+        return Err(Untaken::Repeat);
+    }
+    Ok(())
+}
+
+// What becomes of the piece: with the octets before the pointer it is one packet; or the beginning of one in a field where no packet begins; or else it stops here.
+#[derive(Clone, Copy)]
+pub(crate) enum Goes {
+    Finishes,
+    Grows,
+    Stops,
+}
+
+impl Goes {
+    pub(crate) fn is_finished(self) -> bool
+        ensures { result ≡ finishing self }
+    {
+        matches!(self, Goes::Finishes)
+    }
+
+    pub(crate) fn is_stopped(self) -> bool
+        ensures { result ≡ not (finishing self || growing self) }
+    {
+        matches!(self, Goes::Stops)
+    }
+}
+
+pub(crate) fn plan_piece(state: Frames, frame: Frame<'_>, piece: &[u8]) -> Goes
+    ensures { result ≡ goes_to state frame.entry.count frame.entry.pointer frame.entry.field.now piece.now }
+{
+    let pointer = frame.pointer;
+    if (state.piece == 0) | is_out_of_step(state, frame.count) | (pointer == IDLE_ONLY) {
+        return Goes::Stops;
+    }
+    let from = frame.field.len().min(pointer as usize);
+    match judge_joined(piece, &frame.field[..from]) {
+        Joined::Packet => Goes::Finishes,
+        Joined::Unfinished if pointer == NO_PACKET => Goes::Grows,
+        _ => Goes::Stops,
     }
 }

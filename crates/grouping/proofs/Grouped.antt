@@ -3,7 +3,9 @@ use Rattle.std.proofs.Common.{◌≡◌, ℕ, ◌+◌, Bool, true, false, cond, 
 use borrow.Author.Tests.{not-false}
 use Rattle.lane.specs.declared.Lane.{Lane}
 use Rattle.grouping.specs.declared.Added.{Added}
+use Rattle.std.specs.Prelude.{Result, Ok}
 use Rattle.grouping.specs.declared.Step.TheVariants.{Stray}
+use Rattle.grouping.specs.declared.Refused.{Refused}
 use Rattle.grouping.specs.declared.Plan.{Plan}
 use Rattle.grouping.specs.declared.Plan.TheVariants.{Sure}
 use Rattle.grouping.specs.Grouping.{missing_before, breaks, gives_up, goes_on}
@@ -36,7 +38,7 @@ module _ (l : Lane) (f c n room m : ℕ) (em : m ≡ missing_before l c) (b : Bo
   abbrev on : Bool
   on = l.grouped && not b
 
-  abbrev Plans : Plan → Type 0
+  abbrev Plans : Result Plan Refused → Type 0
   Plans p = p ≡ grouping_plan l f c n room
 
   -- the old group does not go on
@@ -47,12 +49,12 @@ module _ (l : Lane) (f c n room m : ℕ) (em : m ≡ missing_before l c) (b : Bo
     alone : k ≡ n
     alone = ek ∙ rw (off, zero-add)
 
-  pub unsegmented : (p : Plan) → p ≡ unit_plan room taken on k → f ≡ 3 → Plans p
+  pub unsegmented : (p : Result Plan Refused) → p ≡ unit_plan room taken on k → f ≡ 3 → Plans p
   unfolding grouping_plan gives_up
   unsegmented p e h = e ∙ rw (off (inr h), alone (inr h)) (simp (eb, em, eq-eqb f 3 h))
 
   module _ (not3 : f ≡ 3 → ⊥) where
-    pub begins : (p : Plan) → p ≡ hold_plan l.settings taken on k → f ≡ 1 → Plans p
+    pub begins : (p : Result Plan Refused) → p ≡ hold_plan l.settings taken on k → f ≡ 1 → Plans p
     unfolding grouping_plan gives_up
     begins p e h = e ∙ rw (off (inl h), alone (inl h)) (simp (eb, em, ne_eqb f 3 not3, eq-eqb f 1 h))
 
@@ -61,7 +63,7 @@ module _ (l : Lane) (f c n room m : ℕ) (em : m ≡ missing_before l c) (b : Bo
       unfolding goes_on
       goes_as t h = rw (← em, ← eb) h
 
-      pub strays : not on ≡ true → Plans (Sure (Stray taken))
+      pub strays : not on ≡ true → Plans (Ok (Sure (Stray taken)))
       unfolding grouping_plan gives_up
       strays h = simp (goes_as true h, eb, em, ne_eqb f 3 not3, ne_eqb f 1 not1)
 
@@ -72,10 +74,10 @@ module _ (l : Lane) (f c n room m : ℕ) (em : m ≡ missing_before l c) (b : Bo
         together : k ≡ l.octets + n
         together = ek ∙ rw joins
 
-        pub continues : (p : Plan) → p ≡ hold_plan l.settings taken on k → f ≡ 0 → Plans p
+        pub continues : (p : Result Plan Refused) → p ≡ hold_plan l.settings taken on k → f ≡ 0 → Plans p
         unfolding grouping_plan gives_up
         continues p e h = e ∙ rw (joins, together) (simp (goes_as false goes, eb, em, ne_eqb f 3 not3, ne_eqb f 1 not1, eq-eqb f 0 h))
 
-        pub ends : (p : Plan) → p ≡ unit_plan room taken on k → (f ≡ 0 → ⊥) → Plans p
+        pub ends : (p : Result Plan Refused) → p ≡ unit_plan room taken on k → (f ≡ 0 → ⊥) → Plans p
         unfolding grouping_plan gives_up
         ends p e h = e ∙ rw (joins, together) (simp (goes_as false goes, eb, em, ne_eqb f 3 not3, ne_eqb f 1 not1, ne_eqb f 0 h))

@@ -3,12 +3,12 @@ use mathlib.Core.Bool.{true}
 use prog.Linked.{Tree, World, Holds, in_world}
 use prog.LinkedThreads.{HasT}
 use Rattle.grouping.proofs.TheLink as Link
+use Rattle.std.proofs.prelude.U32FromU8.from.Symbol as U32FromU8_from
+use Rattle.std.proofs.prelude.ResultFromResidualErrResidual.from_residual.Symbol as ResultFromResidualErrResidual_from_residual
+use Rattle.std.proofs.prelude.ResultTry.branch.Symbol as ResultTry_branch
 use Rattle.marks.proofs.blocks_for.Symbol as marks_blocks_for
-use Rattle.packet.proofs.number_of.Symbol as packet_number_of
-use Rattle.packet.proofs.place_of.Symbol as packet_place_of
 use Rattle.packet.proofs.size_of.Symbol as packet_size_of
 use Rattle.reading.proofs.read_packet.Symbol as reading_read_packet
-use Rattle.std.proofs.num.wrapping_sub_u16.Symbol as wrapping_sub_u16
 use Rattle.grouping.proofs.plan_packet.Symbol as own_plan_packet
 
 pub table : Tree
@@ -17,12 +17,12 @@ table = Link.table
 -- what it calls of other crates
 abbrev pub Calls : World → Type 0
 Calls W =
-    HasT (in_world W) true marks_blocks_for.code ×
-    (HasT (in_world W) true packet_number_of.code ×
-    (HasT (in_world W) true packet_place_of.code ×
+    HasT (in_world W) true U32FromU8_from.code ×
+    (HasT (in_world W) true ResultFromResidualErrResidual_from_residual.code ×
+    (HasT (in_world W) true ResultTry_branch.code ×
+    (HasT (in_world W) true marks_blocks_for.code ×
     (HasT (in_world W) true packet_size_of.code ×
     (HasT (in_world W) true reading_read_packet.code ×
-    (HasT (in_world W) true wrapping_sub_u16.code ×
     Unit {0})))))
 
 pub has_plan_packet : (W : World) → Holds W "grouping" table → Calls W → HasT (in_world W) true own_plan_packet.code

@@ -4,12 +4,18 @@ use Rattle.std.proofs.Common.{◌≡◌, ℕ, ◌+◌, ◌-◌, ◌*◌, ◌%◌
 use borrow.Author.Tests.{eqb-false, not-true, not-false}
 use Rattle.octets.proofs.Order.{both}
 use Rattle.packet.specs.Space.{flags, counts, count}
-use Rattle.reading.specs.Reading.{refusal, place}
+use Rattle.reading.specs.Reading.{refusal}
 use Rattle.record.specs.Record.{most_packets, most_between}
 use Rattle.marks.specs.Blocks.{blocks_for}
 use Rattle.lane.specs.declared.Lane.{Lane}
 use Rattle.grouping.specs.declared.Added.{Added}
-use Rattle.grouping.specs.declared.Step.TheVariants.{Refuse, Unread, Repeat, Stray, Hold, Unit}
+use Rattle.std.specs.Prelude.{Result, Ok, Err}
+use Rattle.refusal.specs.Refusal.{number, named}
+use Rattle.refusal.specs.declared.Refusal.{Refusal}
+use Rattle.refusal.proofs.Numbers.{of_its_name}
+use Rattle.grouping.specs.declared.Refused.{Refused}
+use Rattle.grouping.specs.declared.Refused.TheVariants as refused
+use Rattle.grouping.specs.declared.Step.TheVariants.{Repeat, Stray, Hold, Unit}
 use Rattle.grouping.specs.declared.Plan.{Plan}
 use Rattle.grouping.specs.declared.Plan.TheVariants.{Sure, Ask}
 use Rattle.octets.specs.Octets.{one}
@@ -18,8 +24,9 @@ use Rattle.grouping.specs.Packets.{terms_of, fault, user_octets}
 use Rattle.grouping.specs.Grouping.{missing_before, breaks, gives_up, goes_on, added_from}
 use Rattle.grouping.specs.Grouping as rule
 use Rattle.grouping.specs.Plans.{hold_plan, unit_plan, grouping_plan, accepted_plan, packet_plan}
+use Rattle.grouping.specs.Plans as plans
 use Rattle.grouping.specs.Steps.{counted, lane_after}
-use Rattle.grouping.proofs.Accepted.{fault_least}
+use Rattle.grouping.proofs.Accepted.{fault_least, fault_most}
 use Rattle.lane.proofs.Fine.{Tallies, Fine, is_fine, fine_is}
 
 -- what holds of both outcomes of a test holds of the choice
@@ -27,15 +34,15 @@ pub of_either : {A : Type 0} (P : A → Type 0) (b : Bool) {x y : A} → (b ≡ 
 of_either P true f g = f refl
 of_either P false f g = g refl
 
-pub data Planned (l : Lane) (s : List ℕ) (room : ℕ) : Plan → Type 0 where
-  refuses : (k : ℕ) → 8 ≤ k → Planned l s room (Sure (Refuse k))
-  unread : (refusal s ≡ 0 → ⊥) → Planned l s room (Sure (Unread (refusal s) (place s)))
-  repeats : Planned l s room (Sure Repeat)
-  strays : (a : Added) → l.opened ≡ true → fault (terms_of l) s ≡ 0 → fine (lane_after l (Stray a)) ≡ true → Planned l s room (Sure (Stray a))
-  ends : (a : Added) (on : Bool) (n : ℕ) → l.opened ≡ true → fault (terms_of l) s ≡ 0 → fine (lane_after l (Unit a on n)) ≡ true
-      → n ≡ cond on l.octets 0 + user_octets l.settings s → n ≤ room → Planned l s room (Sure (Unit a on n))
-  holds : (a : Added) (on : Bool) (n : ℕ) → l.opened ≡ true → fault (terms_of l) s ≡ 0 → fine (lane_after l (Hold a on n)) ≡ true
-      → n ≡ cond on l.octets 0 + user_octets l.settings s → (on ≡ true → l.grouped ≡ true) → Planned l s room (Ask n 27 (Hold a on n))
+pub data Planned (l : Lane) (s : List ℕ) (room : ℕ) : Result Plan Refused → Type 0 where
+  refuses : (r : Refusal) → 8 ≤ number r → Planned l s room (Err (refused.Untaken r))
+  unread : (refusal s ≡ 0 → ⊥) → Planned l s room (Err (refused.Unread (plans.unread s)))
+  repeats : Planned l s room (Ok (Sure Repeat))
+  strays : (a : Added) → l.opened ≡ true → fault (terms_of l) s ≡ 0 → fine (lane_after l (Ok (Stray a))) ≡ true → Planned l s room (Ok (Sure (Stray a)))
+  ends : (a : Added) (on : Bool) (n : ℕ) → l.opened ≡ true → fault (terms_of l) s ≡ 0 → fine (lane_after l (Ok (Unit a on n))) ≡ true
+      → n ≡ cond on l.octets 0 + user_octets l.settings s → n ≤ room → Planned l s room (Ok (Sure (Unit a on n)))
+  holds : (a : Added) (on : Bool) (n : ℕ) → l.opened ≡ true → fault (terms_of l) s ≡ 0 → fine (lane_after l (Ok (Hold a on n))) ≡ true
+      → n ≡ cond on l.octets 0 + user_octets l.settings s → (on ≡ true → l.grouped ≡ true) → Planned l s room (Ok (Ask n (named 27) (Hold a on n)))
 
 -- ---- the lane after a packet is counted
 -- a packet that is no repeat misses at most 16,382
@@ -77,7 +84,7 @@ module _ (l : Lane) (f c : ℕ) (is : Fine l) (on : l.opened ≡ true) (new : ru
 
 -- ---- the plan, test by test
 module _ (l : Lane) (s : List ℕ) (room : ℕ) (is : Fine l) where
-  abbrev Obeys : Plan → Type 0
+  abbrev Obeys : Result Plan Refused → Type 0
   Obeys = Planned l s room
 
   abbrev added : Added
@@ -101,16 +108,16 @@ module _ (l : Lane) (s : List ℕ) (room : ℕ) (is : Fine l) where
     to_hold : (on : Bool) (n : ℕ) → n ≡ cond on l.octets 0 + user → (on ≡ true → l.grouped ≡ true) → Obeys (hold_plan l.settings added on n)
     unfolding hold_plan one lane_after
     to_hold on n is-joined grouped =
-        of_either Obeys (ltb l.settings.cap (blocks_for n)) (λ e. refuses 19 (omega arith))
+        of_either Obeys (ltb l.settings.cap (blocks_for n)) (λ e. refuses (named 19) (omega arith))
         (λ e. holds added on n open' good (after 0 true n (omega arith) (ltb-false _ _ e) (λ z. absurd (true≢false z))) is-joined grouped)
 
     to_end : (on : Bool) (n : ℕ) → n ≡ cond on l.octets 0 + user → Obeys (unit_plan room added on n)
     unfolding unit_plan one lane_after blocks_for
     to_end on n is-joined =
-        of_either Obeys (ltb room n) (λ e. refuses 20 (omega arith))
+        of_either Obeys (ltb room n) (λ e. refuses (named 20) (omega arith))
         (λ e. ends added on n open' good (after 1 false 0 (omega arith) (omega arith) (λ z. refl)) is-joined (ltb-false _ _ e))
 
-    to_stray : Obeys (Sure (Stray added))
+    to_stray : Obeys (Ok (Sure (Stray added)))
     unfolding one lane_after blocks_for
     to_stray = strays added open' good (after 0 false 0 (omega arith) (omega arith) (λ z. refl))
 
@@ -128,11 +135,13 @@ pub planned : (l : Lane) (s : List ℕ) (room : ℕ) → fine l ≡ true → Pla
 unfolding packet_plan accepted_plan
 planned l s room h =
     let is : Fine l = is_fine l h in
-    let P : Plan → Type 0 = Planned l s room in
-    of_either P (not l.opened) (λ e. refuses 11 (omega arith))
+    let P : Result Plan Refused → Type 0 = Planned l s room in
+    of_either P (not l.opened) (λ e. refuses (named 11) (omega arith))
     (λ e. of_either P (not (eqb (refusal s) 0)) (λ r. unread (eqb-false _ _ (not-true _ r)))
     (λ r. of_either P (not (eqb (fault (terms_of l) s) 0))
-    (λ f. refuses (fault (terms_of l) s) (omega (arith, fault_least (terms_of l) s (eqb-true _ _ (not-false _ r)) (eqb-false _ _ (not-true _ f)))))
+    (λ f.
+    let least = fault_least (terms_of l) s (eqb-true _ _ (not-false _ r)) (eqb-false _ _ (not-true _ f)) in
+    refuses (named (fault (terms_of l) s)) (omega (arith, of_its_name (fault (terms_of l) s) (omega arith) (omega (arith, fault_most (terms_of l) s)), least)))
     (λ f. of_either P (rule.repeats l (count s)) (λ g. repeats)
-    (λ g. of_either P (leb most_packets l.packets) (λ k. refuses 18 (omega arith))
+    (λ g. of_either P (leb most_packets l.packets) (λ k. refuses (named 18) (omega arith))
     (λ k. grouping l s room is (not-false _ e) (eqb-true _ _ (not-false _ f)) g (leb-false _ _ k))))))

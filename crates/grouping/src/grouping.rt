@@ -3,11 +3,12 @@ ghost use Rattle.std.specs.Prelude.{◌≡◌, ◌+◌, ◌≤◌, if◌then◌e
 ghost use Rattle.grouping.specs.Grouping.{repeats, missing_before, breaks};
 ghost use Rattle.grouping.specs.Plans.{hold_plan, unit_plan, grouping_plan, accepted_plan};
 
-use crate::{Added, Plan, Step, refuse};
+use crate::{Added, Plan, Refused, Step};
 use lane::{Lane, Settings};
 use marks::blocks_for;
 use packet::COUNTS;
 use record::MOST_PACKETS;
+use refusal::Refusal;
 
 fn is_repeat(l: Lane, count: u16) -> bool
     ensures { result ≡ repeats l count }
@@ -22,59 +23,60 @@ fn missing_before(l: Lane, count: u16) -> u16
     if l.packets == 0 {
         0
     } else {
-        std::num::wrapping_sub_u16(std::num::wrapping_sub_u16(count, l.last), 1) % COUNTS
+        count.wrapping_sub(l.last).wrapping_sub(1) % COUNTS
     }
 }
 
+// By its flags, which are the header's own number (`Packet`).
 fn does_break(missing: u16, flags: u8) -> bool
     ensures { result ≡ breaks missing flags }
 {
     (0 < missing) | (flags == 1) | (flags == 3)
 }
 
-// The octets of the group that goes on, or none, and then n more.
-fn joined_octets(joins: bool, octets: u16, n: usize) -> usize
-    requires { n ≤ 4294967296 }
+// The octets of the group that goes on, or none, and then n more. `joins` is a flag and no Option of the octets: the step is told it (`Step`).
+fn joined_octets(joins: bool, octets: u16, n: u32) -> usize
     ensures { result ≡ (if joins then octets else 0) + n }
 {
-    if joins { octets as usize + n } else { n }
+    let before = if joins { octets } else { 0 };
+    before as usize + n as usize
 }
 
 // A group of n octets is refused over the lane's own cap, and else is asked room for beside the other lanes.
-fn plan_hold(s: Settings, added: Added, joins: bool, n: usize) -> Plan
+fn plan_hold(s: Settings, added: Added, joins: bool, n: usize) -> Result<Plan, Refused>
     ensures { result ≡ hold_plan s added joins n }
 {
     if (s.cap as usize) < blocks_for(n) {
-        return refuse(19);
+        return Err(Refused::Untaken(Refusal::OverCap));
     }
-    Plan::Ask {
+    Ok(Plan::Ask {
         octets: n as u16,
-        refusal: 27,
+        refusal: Refusal::OthersInTheWay,
         step: Step::Hold {
             added,
             joins,
             octets: n,
         },
-    }
-}
-
-// A unit of n octets is told, if the output has room.
-fn plan_unit(room: usize, added: Added, joins: bool, n: usize) -> Plan
-    ensures { result ≡ unit_plan room added joins n }
-{
-    if room < n {
-        return refuse(20);
-    }
-    Plan::Sure(Step::Unit {
-        added,
-        joins,
-        octets: n,
     })
 }
 
-// What the packet is to the group, by its flags.
-fn plan_grouping(l: Lane, flags: u8, count: u16, n: usize, room: usize) -> Plan
-    requires { n ≤ 4294967296 }
+// A unit of n octets is told, if the output has room.
+fn plan_unit(room: usize, added: Added, joins: bool, n: usize) -> Result<Plan, Refused>
+    ensures { result ≡ unit_plan room added joins n }
+{
+    if room < n {
+        return Err(Refused::Untaken(Refusal::UnitTooLong));
+    }
+    Ok(Plan::Sure(Step::Unit {
+        added,
+        joins,
+        octets: n,
+    }))
+}
+
+// What the packet is to the group, by its flags, which are the header's own number (`Packet`). The tests stand one by one, in the order of `grouping_plan`: a `match`
+// would have a guard between its arms.
+fn plan_grouping(l: Lane, flags: u8, count: u16, n: u32, room: usize) -> Result<Plan, Refused>
     ensures { result ≡ grouping_plan l flags count n room }
 {
     let missing = missing_before(l, count);
@@ -93,7 +95,7 @@ fn plan_grouping(l: Lane, flags: u8, count: u16, n: usize, room: usize) -> Plan
         return plan_hold(l.settings, added, joins, octets);
     }
     if !joins {
-        return Plan::Sure(Step::Stray(added));
+        return Ok(Plan::Sure(Step::Stray(added)));
     }
     if flags == 0 {
         return plan_hold(l.settings, added, joins, octets);
@@ -102,15 +104,20 @@ fn plan_grouping(l: Lane, flags: u8, count: u16, n: usize, room: usize) -> Plan
 }
 
 // What a packet does that is not refused before the repeat test, with n octets of user data.
-pub(crate) fn plan_accepted(l: Lane, flags: u8, count: u16, n: usize, room: usize) -> Plan
-    requires { n ≤ 4294967296 }
+pub(crate) fn plan_accepted(
+    l: Lane,
+    flags: u8,
+    count: u16,
+    n: u32,
+    room: usize,
+) -> Result<Plan, Refused>
     ensures { result ≡ accepted_plan l flags count n room }
 {
     if is_repeat(l, count) {
-        return Plan::Sure(Step::Repeat);
+        return Ok(Plan::Sure(Step::Repeat));
     }
     if MOST_PACKETS <= l.packets {
-        return refuse(18);
+        return Err(Refused::Untaken(Refusal::LaneFull));
     }
     plan_grouping(l, flags, count, n, room)
 }

@@ -5,13 +5,15 @@ mod grouping;
 mod packets;
 
 ghost use Rattle.std.specs.Prelude.{◌≡◌};
-ghost use Rattle.grouping.specs.Plans.{refusing, packet_plan};
+ghost use Rattle.grouping.specs.Plans.{packet_plan};
+ghost use Rattle.grouping.specs.declared.Refused.TheVariants as refused;
 
 use grouping::plan_accepted;
 use lane::{Lane, Settings};
-use packet::Packet;
-use packets::{fault_of, other_plan};
+use packet::{Packet, Unread, size_of};
+use packets::find_fault;
 use reading::read_packet;
+use refusal::Refusal;
 
 // What decides, with its octets, whether a packet is at fault: the settings of the lane that it comes to.
 #[derive(Clone, Copy)]
@@ -27,16 +29,36 @@ pub struct Added {
     pub count: u16,
 }
 
-// What a packet does. `joins` says that the open group goes on; octets are those of the group or unit with the user data.
+// Why a packet is refused.
+#[derive(Clone, Copy)]
+pub enum Refused {
+    // 1 to 7, by the reader, with its place from the packet's start
+    Unread(Unread),
+    // 8 and above, by its lane or for the other lanes
+    Untaken(Refusal),
+}
+
+impl From<Unread> for Refused {
+    ghost from_gives = { λ unread r. r ≡ refused.Unread unread };
+
+    fn from(unread: Unread) -> Refused {
+        Refused::Unread(unread)
+    }
+}
+
+impl From<Refusal> for Refused {
+    ghost from_gives = { λ refusal r. r ≡ refused.Untaken refusal };
+
+    fn from(refusal: Refusal) -> Refused {
+        Refused::Untaken(refusal)
+    }
+}
+
+// What a packet does that is not refused. `joins` says that the open group goes on; octets are those of the group or unit with the user data. It is a flag and no
+// Option, as the octets stand either way, and the definitions name it (`Hold a joins n`). Hold and Unit have the same fields, which are taken apart once, in intake:
+// a struct of them would be one more name in each law.
 #[derive(Clone, Copy)]
 pub enum Step {
-    // 8 and above
-    Refuse(u8),
-    // 1 to 7, the reader's refusal with its place
-    Unread {
-        number: u8,
-        place: u32,
-    },
     Repeat,
     Stray(Added),
     Hold {
@@ -58,25 +80,22 @@ pub enum Plan {
     Sure(Step),
     Ask {
         octets: u16,
-        refusal: u8,
+        refusal: Refusal,
         step: Step,
     },
 }
 
-fn refuse(number: u8) -> Plan
-    ensures { result ≡ refusing number }
-{
-    Plan::Sure(Step::Refuse(number))
-}
-
-// What a packet does, where the output has room for so many octets.
-pub fn plan_packet(l: Lane, octets: &[u8], room: usize) -> Plan
+// What a packet does, where the output has room for so many octets; or why it is refused.
+pub fn plan_packet(l: Lane, octets: &[u8], room: usize) -> Result<Plan, Refused>
     ensures { result ≡ packet_plan l octets.now room }
 {
     if !l.opened {
-        return refuse(11);
+        return Err(Refused::Untaken(Refusal::NotOpen));
     }
-    let p = read_packet(octets);
+    let p = read_packet(octets)?;
+    if size_of(p) < octets.len() {
+        return Err(Refused::Untaken(Refusal::OctetsAfter));
+    }
     let Packet::Space {
         packet_type,
         secondary,
@@ -86,19 +105,10 @@ pub fn plan_packet(l: Lane, octets: &[u8], room: usize) -> Plan
         octets: size,
     } = p
     else {
-        return other_plan(p, octets.len());
+        return Err(Refused::Untaken(Refusal::NotSpace));
     };
     let settings = l.settings;
     let terms = Terms { settings };
-    let number = fault_of(terms, octets.len(), packet_type, secondary, apid, size);
-    if number != 0 {
-        return refuse(number);
-    }
-    plan_accepted(
-        l,
-        flags,
-        count,
-        size as usize - l.settings.secondary as usize,
-        room,
-    )
+    find_fault(terms, packet_type, secondary, apid, size)?;
+    plan_accepted(l, flags, count, size - l.settings.secondary as u32, room)
 }

@@ -5,6 +5,7 @@ use mathlib.Core.Bool.{Bool, true, false, cond}
 use mathlib.Core.List.{List, ◌++◌}
 use native.Mathlib.Omega.{arith}
 use lib.ListN.{length, length-append}
+use Rattle.std.specs.Prelude.{Ok}
 use Rattle.octets.specs.Output.{put, put_if_fits}
 use Rattle.octets.proofs.Puts.{nothing, then_put}
 use Rattle.pool.specs.Octets.{pool_octets, stored_if_fits, gathered_if_fits}
@@ -36,13 +37,13 @@ group_most marks i l false pool = omega arith
 -- ---- what is stored and put, from what the functions below worked out
 module _ (marks : List ℕ) (i : ℕ) (l : Lane) (a : Added) (on : Bool) (n : ℕ) where
   pub held_pool : (u pool : List ℕ) → Holds i l a on n (length u) (length pool) → (m : List ℕ) → m ≡ grown marks i l on n → (b : ℕ) → b ≡ cond on l.octets 0
-      → (after : List ℕ) → after ≡ stored_if_fits m i pool b u → after ≡ pool_after marks i l (step.Hold a on n) u pool
+      → (after : List ℕ) → after ≡ stored_if_fits m i pool b u → after ≡ pool_after marks i l (Ok (step.Hold a on n)) u pool
   unfolding pool_after
   held_pool u pool (c, size, most, few, p) m em b eb after e = e ∙ sym (is_stored m i pool b u p (omega (arith, size, most, eb))) ∙ rw (em, eb)
 
   pub unit_out : (u pool out : List ℕ) → Ends i l a on n (length u) (length out) → (at : ℕ) → at ≡ length (group_of marks i l on pool)
       → (mid : List ℕ) → mid ≡ put out 0 (group_of marks i l on pool) → (after : List ℕ) → after ≡ put_if_fits mid at u
-      → after ≡ out_after marks i l (step.Unit a on n) u pool out
+      → after ≡ out_after marks i l (Ok (step.Unit a on n)) u pool out
   unfolding out_after
   unit_out u pool out (c, size, room, few) at ea mid em after e =
       let g = group_of marks i l on pool in

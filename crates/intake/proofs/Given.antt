@@ -3,7 +3,7 @@
 use Prim.Native.Nat.{ℕ, ◌+◌, ◌≤◌, ◌<◌}
 use Prim.{tt}
 use mathlib.Core.Path.{◌≡◌, refl, sym, ap, ◌∙◌}
-use mathlib.Core.Bool.{Bool, true, false, true≢false}
+use mathlib.Core.Bool.{Bool, true, false}
 use mathlib.Core.List.{List}
 use native.Mathlib.Omega.{arith}
 use lib.ListN.{length, set, drop, get_or-eq_default}
@@ -11,12 +11,15 @@ use lib.Seq.{set_out}
 use Rattle.octets.proofs.Order.{either}
 use Rattle.lane.specs.declared.Lane.{Lane}
 use Rattle.lane.proofs.Fine.{held_most}
+use Rattle.std.specs.Prelude.{Result, Ok, Err}
+use Rattle.refusal.specs.Refusal.{named}
 use Rattle.grouping.specs.declared.Plan.{Plan}
-use Rattle.grouping.specs.declared.Step.{Step}
+use Rattle.grouping.specs.declared.Refused.{Refused}
+use Rattle.grouping.specs.declared.Refused.TheVariants as refused
 use Rattle.grouping.specs.declared.Step.TheVariants as step
 use Rattle.lane.specs.Lane.{closed, holding, fine}
 use Rattle.grouping.specs.Plans.{packet_plan}
-use Rattle.grouping.specs.Steps.{lane_after}
+use Rattle.grouping.specs.Steps.{Outcome, lane_after}
 use Rattle.grouping.specs.Packets.{terms_of, fault, user_octets}
 use Rattle.grouping.proofs.Accepted.{accepted_data}
 use Rattle.grouping.proofs.Planned.{of_either, Planned, planned}
@@ -26,9 +29,9 @@ use Rattle.intake.specs.declared.Answer.{Answer}
 use Rattle.intake.specs.declared.Answered.{Answered}
 use Rattle.state.specs.State.{lane_at, within, unsound}
 use Rattle.intake.specs.Calls.{settle, packet_step}
-use Rattle.intake.specs.After.{with_lane, user_of, marks_after, pool_after, out_after, answer_of, answered, taking, taking_pool, taking_out}
+use Rattle.intake.specs.After.{with_lane, user_of, marks_after, pool_after, out_after, answer_of, taking, taking_pool, taking_out}
 use Rattle.intake.specs.Told.{told, telling}
-use Rattle.intake.specs.Ready.{is_refusal, Ready}
+use Rattle.intake.specs.Ready.{Ready}
 use Rattle.state.proofs.Soundness.{then_sound, lane_fine, opened_small}
 use Rattle.intake.proofs.Taken.{same_state, Leaves}
 
@@ -38,7 +41,7 @@ user_part l p = drop (6 + l.settings.secondary) p
 
 -- ---- the step: 24, or what the plan is settled to
 module _ (s : State) (i : ℕ) (p : List ℕ) (octets room : ℕ) where
-  step_24 : unsound s octets ≡ true → packet_step s i p octets room ≡ step.Refuse 24
+  step_24 : unsound s octets ≡ true → packet_step s i p octets room ≡ Err (refused.Untaken (named 24))
   unfolding packet_step
   step_24 h = simp h
 
@@ -48,18 +51,26 @@ module _ (s : State) (i : ℕ) (p : List ℕ) (octets room : ℕ) where
 
   -- as the code has it: the lane l, what the test for 24 told, the plan and the step
   module _ (l : Lane) (el : l ≡ lane_at s i) (b : Bool) (eb : b ≡ unsound s octets) where
-    pub refused_24 : b ≡ true → step.Refuse 24 ≡ packet_step s i p octets room
+    pub refused_24 : b ≡ true → Err (refused.Untaken (named 24)) ≡ packet_step s i p octets room
     refused_24 h = sym (step_24 (sym eb ∙ h))
 
-    pub settled_step : b ≡ false → (pl : Plan) → pl ≡ packet_plan l p room → (d : Step) → d ≡ settle s.lanes i pl → d ≡ packet_step s i p octets room
-    settled_step h pl ep d ed = ed ∙ rw (ep, el) (is_step (sym eb ∙ h))
+    module _ (h : b ≡ false) (r : Result Plan Refused) (er : r ≡ packet_plan l p room) where
+      plan_settles : settle s.lanes i r ≡ packet_step s i p octets room
+      plan_settles = rw (er, el) (is_step (sym eb ∙ h))
+
+      pub refused_plan : (e : Refused) → r ≡ Err e → Err e ≡ packet_step s i p octets room
+      unfolding settle
+      refused_plan e is = rw is at plan_settles
+
+      pub settled_step : (pl : Plan) → r ≡ Ok pl → (d : Outcome) → d ≡ settle s.lanes i (Ok pl) → d ≡ packet_step s i p octets room
+      settled_step pl is d ed = ed ∙ (rw is at plan_settles)
 
 -- ---- what is carried out
 module _ (s : State) (eight : length s.lanes ≡ 8) (i : ℕ) (p : List ℕ) (octets room : ℕ) where
   abbrev own : Lane
   own = lane_at s i
 
-  abbrev packet : Step
+  abbrev packet : Outcome
   packet = packet_step s i p octets room
 
   module _ (passed : unsound s octets ≡ false) where
@@ -76,7 +87,7 @@ module _ (s : State) (eight : length s.lanes ≡ 8) (i : ℕ) (p : List ℕ) (oc
     small : own.opened ≡ true → i < 8
     small = opened_small s.lanes eight i
 
-    ready : {d : Plan} → Planned own p room d → Ready i own (settle s.lanes i d) (length (user_part own p)) octets room
+    ready : {d : Result Plan Refused} → Planned own p room d → Ready i own (settle s.lanes i d) (length (user_part own p)) octets room
     unfolding settle lane_after
     ready (plan.refuses n h) = tt
     ready (plan.unread u) = tt
@@ -85,12 +96,12 @@ module _ (s : State) (eight : length s.lanes ≡ 8) (i : ℕ) (p : List ℕ) (oc
     ready (plan.ends a on n o f g e h) =
         ((small o, g), omega (arith, e, part_octets f), h, (held_most own (good)).1)
     ready (plan.holds a on n o f g e h) =
-        of_either (λ (d : Step). Ready i own d (length (user_part own p)) octets room) (within (set s.lanes i (holding own n)))
-        (λ r. ((small o, g), omega (arith, e, part_octets f), (held_most (lane_after own (step.Hold a on n)) g).1, (held_most own (good)).1, (then_sound s octets passed).1))
+        of_either (λ (d : Outcome). Ready i own d (length (user_part own p)) octets room) (within (set s.lanes i (holding own n)))
+        (λ r. ((small o, g), omega (arith, e, part_octets f), (held_most (lane_after own (Ok (step.Hold a on n))) g).1, (held_most own (good)).1, (then_sound s octets passed).1))
         (λ r. tt)
 
     -- the same part of the pool and of the output is written with either
-    same_pool : {d : Plan} (pool : List ℕ) → Planned own p room d
+    same_pool : {d : Result Plan Refused} (pool : List ℕ) → Planned own p room d
         → pool_after s.marks i own (settle s.lanes i d) (user_part own p) pool ≡ pool_after s.marks i own (settle s.lanes i d) (user_of s i p) pool
     unfolding settle pool_after
     same_pool pool (plan.refuses n h) = refl
@@ -100,7 +111,7 @@ module _ (s : State) (eight : length s.lanes ≡ 8) (i : ℕ) (p : List ℕ) (oc
     same_pool pool (plan.ends a on n o f g e h) = refl
     same_pool pool (plan.holds a on n o f g e h) = rw (part_is f)
 
-    same_out : {d : Plan} (pool out : List ℕ) → Planned own p room d
+    same_out : {d : Result Plan Refused} (pool out : List ℕ) → Planned own p room d
         → out_after s.marks i own (settle s.lanes i d) (user_part own p) pool out ≡ out_after s.marks i own (settle s.lanes i d) (user_of s i p) pool out
     unfolding settle out_after
     same_out pool out (plan.refuses n h) = refl
@@ -109,7 +120,7 @@ module _ (s : State) (eight : length s.lanes ≡ 8) (i : ℕ) (p : List ℕ) (oc
     same_out pool out (plan.strays a o f g) = refl
     same_out pool out (plan.ends a on n o f g e h) = rw (part_is f)
     same_out pool out (plan.holds a on n o f g e h) =
-        of_either (λ (d : Step). out_after s.marks i own d (user_part own p) pool out ≡ out_after s.marks i own d (user_of s i p) pool out)
+        of_either (λ (d : Outcome). out_after s.marks i own d (user_part own p) pool out ≡ out_after s.marks i own d (user_of s i p) pool out)
         (within (set s.lanes i (holding own n))) (λ r. refl) (λ r. refl)
 
   -- so of every step
@@ -124,14 +135,14 @@ module _ (s : State) (eight : length s.lanes ≡ 8) (i : ℕ) (p : List ℕ) (oc
   unfolding out_after
   out_any pool out = either (unsound s octets) (λ h. rw (step_24 s i p octets room h)) (λ h. rw (← is_step s i p octets room h) (same_out h pool out (planned own p room (good h))))
 
-  -- as the code has them: the lane l, the step d and the user data u
-  module _ (l : Lane) (el : l ≡ own) (d : Step) (ed : d ≡ packet) (u : List ℕ) (eu : u ≡ drop (6 + l.settings.secondary) p) where
+  -- as the code has them: the lane l, what comes of the packet d and the user data u
+  module _ (l : Lane) (el : l ≡ own) (d : Outcome) (ed : d ≡ packet) (u : List ℕ) (eu : u ≡ drop (6 + l.settings.secondary) p) where
     pub ready_step : Ready i l d (length u) octets room
     ready_step = rw (eu, ed, el) ready_any
 
     -- the lane k and the marks m after it are put into the state t, beside the answer a
     pub as_promised : (pool out : List ℕ) → octets ≡ length pool → room ≡ length out → (k : Lane) (m after-pool after-out : List ℕ)
-        → Leaves s.marks i l d u pool out k m after-pool after-out → (a : Answer) → a ≡ answer_of d → (t : State) → t ≡ with_lane s i k m
+        → Leaves s.marks i l d u pool out k m after-pool after-out → (a : Result Answer Refused) → a ≡ answer_of d → (t : State) → t ≡ with_lane s i k m
         → (record { answer = a; state = t } ≡ taking s i p (length pool) (length out)) × (after-pool ≡ taking_pool s i p (length out) pool) × (after-out ≡ taking_out s i p pool out)
     unfolding taking taking_pool taking_out
     as_promised pool out po ro k m after-pool after-out w a ea t et =
@@ -147,32 +158,20 @@ module _ (s : State) (eight : length s.lanes ≡ 8) (i : ℕ) where
   pub nothing_stored : 8 ≤ i → (k : Lane) (m : List ℕ) → record { lanes = s.lanes; marks = m } ≡ with_lane s i k m
   nothing_stored h k m = rw (set_out s.lanes i k (omega (arith, eight, h)))
 
--- ---- a step that refuses leaves all as it was
+-- ---- a packet that is refused leaves all as it was
 module _ (s : State) (i : ℕ) (p pool out : List ℕ) where
-  by_step : (d : Step) → is_refusal d ≡ true
-      → (record { answer = answer_of d; state = s } ≡ answered s i d)
-      × (pool ≡ pool_after s.marks i (lane_at s i) d (user_of s i p) pool) × (out ≡ out_after s.marks i (lane_at s i) d (user_of s i p) pool out)
-  unfolding lane_after marks_after pool_after out_after
-  by_step (step.Refuse k) r = (ap (λ (t : State). record { answer = answer_of (step.Refuse k); state = t }) (same_state s i), refl, refl)
-  by_step (step.Unread k q) r = (ap (λ (t : State). record { answer = answer_of (step.Unread k q); state = t }) (same_state s i), refl, refl)
-  by_step step.Repeat r = absurd (true≢false (sym r))
-  by_step (step.Stray a) r = absurd (true≢false (sym r))
-  by_step (step.Hold a on n) r = absurd (true≢false (sym r))
-  by_step (step.Unit a on n) r = absurd (true≢false (sym r))
-
-  pub refused_so : (d : Step) → d ≡ packet_step s i p (length pool) (length out) → is_refusal d ≡ true → (a : Answer) → a ≡ answer_of d
-      → (record { answer = a; state = s } ≡ taking s i p (length pool) (length out)) × (pool ≡ taking_pool s i p (length out) pool) × (out ≡ taking_out s i p pool out)
-  unfolding taking taking_pool taking_out
-  refused_so d ed r a ea = rw (ea, ← ed) (by_step d r)
+  pub refused_so : (e : Refused) → Err e ≡ packet_step s i p (length pool) (length out)
+      → (record { answer = Err e; state = s } ≡ taking s i p (length pool) (length out)) × (pool ≡ taking_pool s i p (length out) pool) × (out ≡ taking_out s i p pool out)
+  unfolding taking taking_pool taking_out lane_after marks_after pool_after out_after
+  refused_so e ed = rw (← ed) (ap (λ (t : State). let a : Answered = record { answer = Err e; state = t } in a) (same_state s i), refl, refl)
 
 -- the answer tells what the step does
-step_told : (d : Step) → told (answer_of d) ≡ telling d
-step_told (step.Refuse k) = refl
-step_told (step.Unread k place) = refl
-step_told step.Repeat = refl
-step_told (step.Stray a) = refl
-step_told (step.Hold a on n) = refl
-step_told (step.Unit a on n) = refl
+step_told : (d : Outcome) → told (answer_of d) ≡ telling d
+step_told (Err r) = refl
+step_told (Ok step.Repeat) = refl
+step_told (Ok (step.Stray a)) = refl
+step_told (Ok (step.Hold a on n)) = refl
+step_told (Ok (step.Unit a on n)) = refl
 
 pub answer_told : (s : State) (i : ℕ) (p : List ℕ) (octets room : ℕ) (r : Answered) → r ≡ taking s i p octets room
     → told r.answer ≡ telling (packet_step s i p octets room)

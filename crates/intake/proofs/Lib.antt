@@ -1,3 +1,4 @@
+pub mod Ones
 pub mod Settled
 pub mod Carried
 pub mod Taken

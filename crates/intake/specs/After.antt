@@ -1,16 +1,19 @@
 -- What a call tells, and the state, the pool and the output after it.
-use Rattle.std.specs.Prelude.{ℕ, ◌-◌, Bool, true, false, cond, List, [], ◌++◌, length, set}
+use Rattle.std.specs.Prelude.{ℕ, ◌-◌, Bool, true, false, cond, List, [], ◌++◌, length, set, Result, Ok, Err}
+use Rattle.refusal.specs.Refusal.{number}
+use Rattle.refusal.specs.declared.Refusal.{Refusal}
 use Rattle.octets.specs.Output.{unless_refused, put, output_after}
 use Rattle.record.specs.Record.{record_octets}
 use Rattle.marks.specs.Blocks.{mark, blocks_for, granted, freed}
 use Rattle.pool.specs.Octets.{stored, gathered}
 use Rattle.lane.specs.declared.Settings.{Settings}
 use Rattle.lane.specs.declared.Lane.{Lane}
+use Rattle.grouping.specs.declared.Refused.{Refused}
 use Rattle.grouping.specs.declared.Step.{Step}
 use Rattle.grouping.specs.declared.Step.TheVariants as step
 use Rattle.lane.specs.Lane.{closed, held, credit_of}
 use Rattle.grouping.specs.Packets.{user_data}
-use Rattle.grouping.specs.Steps.{lane_after}
+use Rattle.grouping.specs.Steps.{Outcome, lane_after}
 use Rattle.state.specs.declared.State.{State}
 use Rattle.intake.specs.declared.Changed.{Changed}
 use Rattle.intake.specs.declared.Answer.{Answer}
@@ -23,8 +26,10 @@ use Rattle.intake.specs.Calls.{opened_with, opening_refusal, closing_refusal, pa
 abbrev pub with_lane : State → ℕ → Lane → List ℕ → State
 with_lane s i l marks = record { lanes = set s.lanes i l; marks = marks }
 
-abbrev pub refused_change : State → ℕ → Changed
-refused_change s refusal = record { refusal = refusal; state = s }
+-- from what became of the state before
+abbrev pub changed_by : State → Result State Refusal → Changed
+changed_by before (Ok after) = record { refusal = 0; state = after }
+changed_by before (Err r) = record { refusal = number r; state = before }
 
 abbrev pub changed : ℕ → State → State → Changed
 changed refusal new old = record { refusal = refusal; state = unless_refused refusal new old }
@@ -50,22 +55,20 @@ unfoldable pub grown : List ℕ → ℕ → Lane → Bool → ℕ → List ℕ
 grown marks i l true n = granted marks (mark i (held l)) (blocks_for n - held l)
 grown marks i l false n = granted (released_from marks i l) (mark i 0) (blocks_for n)
 
-unfoldable pub marks_after : List ℕ → ℕ → Lane → Step → List ℕ
-marks_after marks i l (step.Refuse k) = marks
-marks_after marks i l (step.Unread k place) = marks
-marks_after marks i l step.Repeat = marks
-marks_after marks i l (step.Stray a) = released_from marks i l
-marks_after marks i l (step.Hold a on n) = grown marks i l on n
-marks_after marks i l (step.Unit a on n) = released_from marks i l
+unfoldable pub marks_after : List ℕ → ℕ → Lane → Outcome → List ℕ
+marks_after marks i l (Err r) = marks
+marks_after marks i l (Ok step.Repeat) = marks
+marks_after marks i l (Ok (step.Stray a)) = released_from marks i l
+marks_after marks i l (Ok (step.Hold a on n)) = grown marks i l on n
+marks_after marks i l (Ok (step.Unit a on n)) = released_from marks i l
 
 -- Only packets answered Held store octets: user data u after those of the group that goes on
-unfoldable pub pool_after : List ℕ → ℕ → Lane → Step → List ℕ → List ℕ → List ℕ
-pool_after marks i l (step.Refuse k) u pool = pool
-pool_after marks i l (step.Unread k place) u pool = pool
-pool_after marks i l step.Repeat u pool = pool
-pool_after marks i l (step.Stray a) u pool = pool
-pool_after marks i l (step.Hold a on n) u pool = stored (grown marks i l on n) i pool (cond on l.octets 0) u
-pool_after marks i l (step.Unit a on n) u pool = pool
+unfoldable pub pool_after : List ℕ → ℕ → Lane → Outcome → List ℕ → List ℕ → List ℕ
+pool_after marks i l (Err r) u pool = pool
+pool_after marks i l (Ok step.Repeat) u pool = pool
+pool_after marks i l (Ok (step.Stray a)) u pool = pool
+pool_after marks i l (Ok (step.Hold a on n)) u pool = stored (grown marks i l on n) i pool (cond on l.octets 0) u
+pool_after marks i l (Ok (step.Unit a on n)) u pool = pool
 
 -- A unit is written at the front of the output: the group that goes on and the user data
 unfoldable pub group_of : List ℕ → ℕ → Lane → Bool → List ℕ → List ℕ
@@ -74,25 +77,26 @@ group_of marks i l on pool = cond on (gathered marks i pool 0 l.octets) []
 abbrev pub unit_of : List ℕ → ℕ → Lane → Bool → List ℕ → List ℕ → List ℕ
 unit_of marks i l on u pool = group_of marks i l on pool ++ u
 
-unfoldable pub out_after : List ℕ → ℕ → Lane → Step → List ℕ → List ℕ → List ℕ → List ℕ
-out_after marks i l (step.Refuse k) u pool out = out
-out_after marks i l (step.Unread k place) u pool out = out
-out_after marks i l step.Repeat u pool out = out
-out_after marks i l (step.Stray a) u pool out = out
-out_after marks i l (step.Hold a on n) u pool out = out
-out_after marks i l (step.Unit a on n) u pool out = put out 0 (unit_of marks i l on u pool)
+unfoldable pub out_after : List ℕ → ℕ → Lane → Outcome → List ℕ → List ℕ → List ℕ → List ℕ
+out_after marks i l (Err r) u pool out = out
+out_after marks i l (Ok step.Repeat) u pool out = out
+out_after marks i l (Ok (step.Stray a)) u pool out = out
+out_after marks i l (Ok (step.Hold a on n)) u pool out = out
+out_after marks i l (Ok (step.Unit a on n)) u pool out = put out 0 (unit_of marks i l on u pool)
 
 -- the answer
-abbrev pub answer_of : Step → Answer
-answer_of (step.Refuse k) = answer.Refused k
-answer_of (step.Unread k place) = answer.Unread k place
-answer_of step.Repeat = answer.Repeat
-answer_of (step.Stray a) = answer.Stray a.missing a.given_up
-answer_of (step.Hold a on n) = answer.Held a.missing a.given_up
-answer_of (step.Unit a on n) = answer.Unit n a.missing a.given_up
+abbrev pub taken_as : Step → Answer
+taken_as step.Repeat = answer.Repeat
+taken_as (step.Stray a) = answer.Stray a.missing a.given_up
+taken_as (step.Hold a on n) = answer.Held a.missing a.given_up
+taken_as (step.Unit a on n) = answer.Unit n a.missing a.given_up
 
--- the answer and the state after step d in lane i
-abbrev pub answered : State → ℕ → Step → Answered
+abbrev pub answer_of : Outcome → Result Answer Refused
+answer_of (Err r) = Err r
+answer_of (Ok d) = Ok (taken_as d)
+
+-- the answer and the state after what comes of a packet in lane i
+abbrev pub answered : State → ℕ → Outcome → Answered
 answered s i d =
     record { answer = answer_of d; state = with_lane s i (lane_after (lane_at s i) d) (marks_after s.marks i (lane_at s i) d) }
 

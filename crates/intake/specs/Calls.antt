@@ -1,15 +1,17 @@
 -- The three calls: which refusal is given, or what is done.
-use Rattle.std.specs.Prelude.{ℕ, true, false, cond, not, List, [], ◌∷◌, get_or, set, ltb}
+use Rattle.std.specs.Prelude.{ℕ, true, false, cond, not, List, [], ◌∷◌, get_or, set, ltb, Result, Ok, Err}
 use Rattle.octets.specs.Order.{Test, ◌gives◌, first, numbers_of}
 use Rattle.record.specs.Record.{record_size}
 use Rattle.lane.specs.declared.Settings.{Settings}
 use Rattle.lane.specs.declared.Lane.{Lane}
-use Rattle.grouping.specs.declared.Step.{Step}
-use Rattle.grouping.specs.declared.Step.TheVariants.{Refuse}
+use Rattle.refusal.specs.Refusal.{named}
+use Rattle.grouping.specs.declared.Refused.{Refused}
+use Rattle.grouping.specs.declared.Refused.TheVariants as refused
 use Rattle.grouping.specs.declared.Plan.{Plan}
 use Rattle.grouping.specs.declared.Plan.TheVariants.{Sure, Ask}
 use Rattle.lane.specs.Lane.{closed, holding, illegal, tallies_possible}
 use Rattle.grouping.specs.Plans.{packet_plan}
+use Rattle.grouping.specs.Steps.{Outcome}
 use Rattle.state.specs.declared.State.{State}
 use Rattle.state.specs.State.{lane_at, within, unsound}
 
@@ -50,12 +52,14 @@ unfoldable pub closing_refusal : State → ℕ → ℕ → ℕ → ℕ
 closing_refusal s i size room = first 0 (numbers_of (closing_tests s i size room))
 
 -- a plan that asks for room gets it where the lanes are within once lane i has an open group of n octets
-unfoldable pub settle : List Lane → ℕ → Plan → Step
-settle lanes i (Sure step) = step
-settle lanes i (Ask n refusal step) = cond (within (set lanes i (holding (get_or lanes i closed) n))) step (Refuse refusal)
+unfoldable pub settle : List Lane → ℕ → Result Plan Refused → Outcome
+settle lanes i (Err r) = Err r
+settle lanes i (Ok (Sure step)) = Ok step
+settle lanes i (Ok (Ask n refusal step)) =
+    cond (within (set lanes i (holding (get_or lanes i closed) n))) (Ok step) (Err (refused.Untaken refusal))
 
 -- Packet to a lane: 24, 11, reading, 12, 13, 14, 15, 16, 17, the repeat test, 18, 19, 27, 20
-unfoldable pub packet_step : State → ℕ → List ℕ → ℕ → ℕ → Step
+unfoldable pub packet_step : State → ℕ → List ℕ → ℕ → ℕ → Outcome
 packet_step s i packet size room =
     first (settle s.lanes i (packet_plan (lane_at s i) packet room))
-    ((unsound s size gives Refuse 24) ∷ [])
+    ((unsound s size gives Err (refused.Untaken (named 24))) ∷ [])

@@ -17,10 +17,10 @@ pub(crate) fn lane_at(lanes: [Lane; 8], i: usize) -> Lane
     ensures value { result ≡ get_or lanes i closed }
     ensures lanes_len { length lanes ≡ 8 }
 {
-    if i < 8 { lanes[i] } else { CLOSED }
+    lanes.get(i).copied().unwrap_or(CLOSED)
 }
 
-// The lanes with another in the place of one of them.
+// The lanes with another in the place of one of them. It is stored by its index: of what `get_mut` lent, a proof knows the length alone afterwards.
 pub(crate) fn with_one(lanes: [Lane; 8], i: usize, l: Lane) -> [Lane; 8]
     ensures { result ≡ set lanes i l }
 {
@@ -35,18 +35,20 @@ pub(crate) fn with_one(lanes: [Lane; 8], i: usize, l: Lane) -> [Lane; 8]
 pub(crate) fn with_group(l: Lane, n: u16) -> Lane
     ensures { result ≡ holding l n }
 {
-    let mut after = l;
-    after.grouped = true;
-    after.octets = n;
-    after
+    Lane {
+        grouped: true,
+        octets: n,
+        ..l
+    }
 }
 
 // A lane that was just opened.
 pub(crate) fn opened_with(settings: Settings) -> Lane
     ensures { result ≡ opened_with settings }
 {
-    let mut l = CLOSED;
-    l.opened = true;
-    l.settings = settings;
-    l
+    Lane {
+        opened: true,
+        settings,
+        ..CLOSED
+    }
 }

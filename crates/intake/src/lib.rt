@@ -9,26 +9,21 @@ ghost use Rattle.std.specs.Prelude.{◌≡◌, length};
 ghost use Rattle.state.specs.State.{lane_at};
 ghost use Rattle.intake.specs.Calls.{packet_step};
 ghost use Rattle.intake.specs.Told.{told, telling};
-ghost use Rattle.intake.specs.After.{refused_change, opening, closing, closing_out, taking, taking_pool, taking_out};
+ghost use Rattle.intake.specs.After.{taken_as, changed_by, opening, closing, closing_out, taking, taking_pool, taking_out};
 
-use closing::{credit_of, release};
-use grouping::{Step, plan_packet};
+use closing::{Own, credit_of, release};
+use grouping::{Refused, Step, plan_packet};
 use lane::{CLOSED, Lane, Settings, is_illegal};
 use lanes::{count_of, lane_at, opened_with, with_one};
-use record::{RecordWritten, write_record};
+use record::write_record;
+use refusal::Refusal;
 use state::{State, is_unsound, is_within};
-use taking::{answer_of, carry_out, is_refusal, settled, user_part};
+use taking::{carry_out, settled, user_part};
 
-// What a packet is answered: packets missing before it, and whether a group was given up. A unit's octets lie at the front of the output.
+// What a packet is answered that is not refused: packets missing before it, and whether a group was given up. A unit's octets lie at the front of the
+// output.
 #[derive(Clone, Copy)]
 pub enum Answer {
-    // 8 and above
-    Refused(u8),
-    // 1 to 7: what the reader refuses, with its place from the packet's start
-    Unread {
-        number: u8,
-        place: u32,
-    },
     Repeat,
     Stray {
         missing: u16,
@@ -45,14 +40,37 @@ pub enum Answer {
     },
 }
 
-// What a packet gives.
+impl From<Step> for Answer {
+    ghost from_gives = { λ step answer. answer ≡ taken_as step };
+
+    fn from(step: Step) -> Answer {
+        match step {
+            Step::Repeat => Answer::Repeat,
+            Step::Stray(a) => Answer::Stray {
+                missing: a.missing,
+                given_up: a.given_up,
+            },
+            Step::Hold { added, .. } => Answer::Held {
+                missing: added.missing,
+                given_up: added.given_up,
+            },
+            Step::Unit { added, octets, .. } => Answer::Unit {
+                octets,
+                missing: added.missing,
+                given_up: added.given_up,
+            },
+        }
+    }
+}
+
+// What a packet gives: the answer, or why it is refused, beside the state.
 #[derive(Clone, Copy)]
 pub struct Answered {
-    pub answer: Answer,
+    pub answer: Result<Answer, Refused>,
     pub state: State,
 }
 
-// What an opening or a closing gives: the refusal, or 0.
+// What an opening or a closing gives: the refusal, or 0. C is given it, so it is no Result (include/branmuslin.h).
 #[repr(C)]
 #[derive(Clone, Copy)]
 pub struct Changed {
@@ -60,59 +78,76 @@ pub struct Changed {
     pub state: State,
 }
 
-fn refused(s: State, number: u8) -> Changed
-    ensures { result ≡ refused_change s number }
+// As C is told: the state after, or the one before with the refusal.
+fn as_changed(before: State, after: Result<State, Refusal>) -> Changed
+    ensures { result ≡ changed_by before after }
 {
-    Changed {
-        refusal: number,
-        state: s,
+    match after {
+        Ok(state) => Changed { refusal: 0, state },
+        Err(refusal) => Changed {
+            refusal: u8::from(refusal),
+            state: before,
+        },
     }
+}
+
+// The state with the lane open.
+fn after_opening(s: State, lane: usize, settings: Settings, octets: usize) -> Result<State, Refusal>
+    ensures { changed_by s result ≡ opening s lane settings octets }
+{
+    if is_unsound(s, octets) {
+        return Err(Refusal::NotSound);
+    }
+    if 7 < lane {
+        return Err(Refusal::NotOpen);
+    }
+    let lanes = s.lanes;
+    if lane_at(lanes, lane).opened {
+        return Err(Refusal::AlreadyOpen);
+    }
+    if is_illegal(settings) {
+        return Err(Refusal::BadSettings);
+    }
+    let opened = opened_with(settings);
+    if !is_within(lanes, lane, opened) {
+        return Err(Refusal::NotPromised);
+    }
+    let marks = s.marks;
+    Ok(State {
+        lanes: with_one(lanes, lane, opened),
+        marks,
+    })
 }
 
 // Opens a lane.
 pub fn open_lane(s: State, lane: usize, settings: Settings, pool: &[u8]) -> Changed
     ensures { result ≡ opening s lane settings (length pool.now) }
 {
-    if is_unsound(s, pool.len()) {
-        return refused(s, 24);
-    }
-    if 7 < lane {
-        return refused(s, 11);
-    }
-    let lanes = s.lanes;
-    if lane_at(lanes, lane).opened {
-        return refused(s, 21);
-    }
-    if is_illegal(settings) {
-        return refused(s, 22);
-    }
-    let opened = opened_with(settings);
-    if !is_within(lanes, lane, opened) {
-        return refused(s, 23);
-    }
-    let marks = s.marks;
-    Changed {
-        refusal: 0,
-        state: State {
-            lanes: with_one(lanes, lane, opened),
-            marks,
-        },
-    }
+    as_changed(s, after_opening(s, lane, settings, pool.len()))
 }
 
-// The step that a packet comes to, where l is the lane of that number: 24, or what its plan is settled to.
-fn step_of(s: State, l: Lane, lane: usize, octets: &[u8], size: usize, room: usize) -> Step
+// The step that a packet comes to, where l is the lane of that number; or why it is refused: by 24, by its plan, or where that is not settled.
+fn step_of(
+    s: State,
+    l: Lane,
+    lane: usize,
+    octets: &[u8],
+    size: usize,
+    room: usize,
+) -> Result<Step, Refused>
     requires { l ≡ lane_at s lane }
     ensures { result ≡ packet_step s lane octets.now size room }
 {
     if is_unsound(s, size) {
-        return Step::Refuse(24);
+        return Err(Refused::Untaken(Refusal::NotSound));
     }
+    let plan = plan_packet(l, octets, room)?;
     let lanes = s.lanes;
-    settled(lanes, lane, l, plan_packet(l, octets, room))
+    settled(lanes, lane, l, plan)
 }
 
-// Gives a packet to a lane. The state is copied once, and the lane and the marks are changed in their places.
+// Gives a packet to a lane. The state is copied once, and the lane and the marks are changed in their places: so the lane is read and stored by its index, and
+// not by `lane_at` and `with_one`, which are handed all eight.
 pub fn take_packet(
     s: State,
     lane: usize,
@@ -133,22 +168,54 @@ pub fn take_packet(
     } else {
         CLOSED
     };
-    let step = step_of(s, l, lane, octets, pool.len(), out.len());
-    if is_refusal(step) {
-        return Answered {
-            answer: answer_of(step),
-            state: after,
-        };
-    }
+    let step = match step_of(s, l, lane, octets, pool.len(), out.len()) {
+        Ok(step) => step,
+        Err(refused) => {
+            return Answered {
+                answer: Err(refused),
+                state: after,
+            };
+        }
+    };
     let user = user_part(octets, l.settings.secondary);
-    let next = carry_out(l, &mut after.marks, lane, step, user, pool, out);
+    let own = Own {
+        number: lane,
+        lane: l,
+    };
+    let next = carry_out(own, &mut after.marks, step, user, pool, out);
     if lane < count {
         after.lanes[lane] = next;
     }
     Answered {
-        answer: answer_of(step),
+        answer: Ok(Answer::from(step)),
         state: after,
     }
+}
+
+// The state with the lane closed, once its credit record is written at the front of out. State, lane and output are the parameters of `close_lane`, which C hands in.
+fn after_closing(s: State, lane: usize, octets: usize, out: &mut [u8]) -> Result<State, Refusal>
+    ensures value { changed_by s result ≡ closing s lane octets (length out.old) }
+    ensures out_after { out.new ≡ closing_out s lane octets out.old }
+{
+    if is_unsound(s, octets) {
+        return Err(Refusal::NotSound);
+    }
+    let lanes = s.lanes;
+    let l = lane_at(lanes, lane);
+    if !l.opened {
+        return Err(Refusal::NotOpen);
+    }
+    write_record(credit_of(l), out)?;
+    let mut marks = s.marks;
+    let own = Own {
+        number: lane,
+        lane: l,
+    };
+    release(own, &mut marks);
+    Ok(State {
+        lanes: with_one(lanes, lane, CLOSED),
+        marks,
+    })
 }
 
 // Closes a lane and writes its credit record at the front of out.
@@ -156,26 +223,5 @@ pub fn close_lane(s: State, lane: usize, pool: &[u8], out: &mut [u8]) -> Changed
     ensures value { result ≡ closing s lane (length pool.now) (length out.old) }
     ensures out_after { out.new ≡ closing_out s lane (length pool.now) out.old }
 {
-    if is_unsound(s, pool.len()) {
-        return refused(s, 24);
-    }
-    let lanes = s.lanes;
-    let l = lane_at(lanes, lane);
-    if !l.opened {
-        return refused(s, 11);
-    }
-    match write_record(credit_of(l), out) {
-        RecordWritten::Refused(number) => refused(s, number),
-        RecordWritten::Octets(_) => {
-            let mut marks = s.marks;
-            release(&mut marks, lane, l);
-            Changed {
-                refusal: 0,
-                state: State {
-                    lanes: with_one(lanes, lane, CLOSED),
-                    marks,
-                },
-            }
-        }
-    }
+    as_changed(s, after_closing(s, lane, pool.len(), out))
 }

@@ -5,6 +5,7 @@ use mathlib.Core.Bool.{Bool, true, false, ◌&&◌, true≢false}
 use native.Mathlib.Nat.{add_assoc}
 use native.Mathlib.Omega.{arith}
 use lib.Dec.{leb}
+use mir.Val.{bool_byte}
 use borrow.Author.Tests.{leb-true, le-leb}
 use Rattle.octets.specs.Octets.{one}
 use Rattle.record.specs.Record.{most_apid, most_packets, most_missing, possible}
@@ -32,6 +33,12 @@ more_broken r g =
     let p = r.packets in
     rw (← add_assoc u b g)
     (stronger (leb r.apid most_apid) (leb p most_packets) (leb (u + b) p) (leb (u + b + g) p) (leb r.missing (most_missing p)) (λ e. le-leb (u + b) p (omega (arith, leb-true (u + b + g) p e))))
+
+-- 1 for yes, as `u64::from` has it
+pub one_byte : (b : Bool) → bool_byte b ≡ one b
+unfolding one
+one_byte true = refl
+one_byte false = refl
 
 pub one_most : (b : Bool) → one b ≤ 1
 unfolding one

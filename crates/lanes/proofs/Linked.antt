@@ -6,6 +6,7 @@ use Rattle.lanes.proofs.TheLink as Link
 use Rattle.intake.proofs.close_lane.Symbol as intake_close_lane
 use Rattle.intake.proofs.open_lane.Symbol as intake_open_lane
 use Rattle.intake.proofs.take_packet.Symbol as intake_take_packet
+use Rattle.refusal.proofs.U8FromRefusal.from.Symbol as refusal_U8FromRefusal_from
 use Rattle.state.proofs.fresh_start.Symbol as state_fresh_start
 use Rattle.state.proofs.is_sound.Symbol as state_is_sound
 use Rattle.lanes.proofs.branmuslin_fresh_start.Symbol as own_branmuslin_fresh_start
@@ -23,9 +24,10 @@ Calls W =
     HasT (in_world W) true intake_close_lane.code ×
     (HasT (in_world W) true intake_open_lane.code ×
     (HasT (in_world W) true intake_take_packet.code ×
+    (HasT (in_world W) true refusal_U8FromRefusal_from.code ×
     (HasT (in_world W) true state_fresh_start.code ×
     (HasT (in_world W) true state_is_sound.code ×
-    Unit {0}))))
+    Unit {0})))))
 
 pub has_branmuslin_fresh_start : (W : World) → Holds W "lanes" table → Calls W → HasT (in_world W) true own_branmuslin_fresh_start.code
 unfolding table

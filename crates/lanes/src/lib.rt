@@ -5,14 +5,16 @@
 ghost use Rattle.std.specs.Prelude.{◌≡◌, length};
 ghost use Rattle.state.specs.State.{fresh_state, sound};
 ghost use Rattle.intake.specs.After.{opening, closing, closing_out, taking, taking_pool, taking_out};
-ghost use Rattle.lanes.specs.Numbers.{refused_numbers, taken_numbers, telling, numbered};
+ghost use Rattle.lanes.specs.Numbers.{refused_numbers, taken_numbers, answer_numbers, numbered};
 
+use grouping::Refused;
 use intake::{Answer, Answered, Changed};
 use lane::Settings;
+use packet::Unread;
 use state::State;
 
-// What a packet is answered, in numbers. kind: 0 refused, 1 repeat, 2 stray, 3 held, 4 unit; given_up: a group was given up; place: of a refusal
-// 1 to 7, else 0.
+// What a packet is answered, in numbers, which C is given in place of an enum (include/branmuslin.h). kind: 0 refused, 1 repeat, 2 stray, 3 held, 4 unit;
+// given_up: a group was given up; place: of a refusal 1 to 7, else 0.
 #[repr(C)]
 #[derive(Clone, Copy)]
 pub struct Numbered {
@@ -54,7 +56,7 @@ pub extern "C" fn branmuslin_open_lane(
     intake::open_lane(state, lane, settings, pool)
 }
 
-// The numbers of an answer, without the state.
+// The numbers of an answer, without the state, which is large and is put beside once.
 #[derive(Drop)]
 struct Numbers {
     refusal: u8,
@@ -65,21 +67,27 @@ struct Numbers {
     place: usize,
 }
 
-// Those of a refusal, with its place or 0.
-fn refused(refusal: u8, place: u32) -> Numbers
-    ensures { result ≡ refused_numbers refusal place }
-{
-    Numbers {
-        refusal,
-        kind: 0,
-        given_up: false,
-        missing: 0,
-        octets: 0,
-        place: place as usize,
+// A refusal has its place, or 0.
+impl From<Refused> for Numbers {
+    ghost from_gives = { λ refused numbers. numbers ≡ refused_numbers refused };
+
+    fn from(refused: Refused) -> Numbers {
+        let (refusal, place) = match refused {
+            Refused::Unread(Unread { refusal, place }) => (refusal, place as usize),
+            Refused::Untaken(refusal) => (refusal, 0),
+        };
+        Numbers {
+            refusal: u8::from(refusal),
+            kind: 0,
+            given_up: false,
+            missing: 0,
+            octets: 0,
+            place,
+        }
     }
 }
 
-// Those of any other answer.
+// Those of an answer that is no refusal. The kind is C's number (include/branmuslin.h), which stands once, below.
 fn taken(kind: u8, given_up: bool, missing: u16, octets: usize) -> Numbers
     ensures { result ≡ taken_numbers kind given_up missing octets }
 {
@@ -93,38 +101,42 @@ fn taken(kind: u8, given_up: bool, missing: u16, octets: usize) -> Numbers
     }
 }
 
-fn numbers_of(answer: Answer) -> Numbers
-    ensures { result ≡ telling answer }
-{
-    match answer {
-        Answer::Refused(number) => refused(number, 0),
-        Answer::Unread { number, place } => refused(number, place),
-        Answer::Repeat => taken(1, false, 0, 0),
-        Answer::Stray { missing, given_up } => taken(2, given_up, missing, 0),
-        Answer::Held { missing, given_up } => taken(3, given_up, missing, 0),
-        Answer::Unit {
-            octets,
-            missing,
-            given_up,
-        } => taken(4, given_up, missing, octets),
+impl From<Answer> for Numbers {
+    ghost from_gives = { λ answer numbers. numbers ≡ answer_numbers answer };
+
+    fn from(answer: Answer) -> Numbers {
+        match answer {
+            Answer::Repeat => taken(1, false, 0, 0),
+            Answer::Stray { missing, given_up } => taken(2, given_up, missing, 0),
+            Answer::Held { missing, given_up } => taken(3, given_up, missing, 0),
+            Answer::Unit {
+                octets,
+                missing,
+                given_up,
+            } => taken(4, given_up, missing, octets),
+        }
     }
 }
 
-// An answer in numbers. The state is put beside them once, since it is large.
-fn in_numbers(a: Answered) -> Numbered
-    ensures { result ≡ numbered a }
-{
-    let answer = a.answer;
-    let n = numbers_of(answer);
-    let state = a.state;
-    Numbered {
-        refusal: n.refusal,
-        kind: n.kind,
-        given_up: n.given_up,
-        missing: n.missing,
-        octets: n.octets,
-        place: n.place,
-        state,
+// The state is put beside the numbers once, since it is large.
+impl From<Answered> for Numbered {
+    ghost from_gives = { λ a n. n ≡ numbered a };
+
+    fn from(a: Answered) -> Numbered {
+        let n = match a.answer {
+            Ok(answer) => Numbers::from(answer),
+            Err(refused) => Numbers::from(refused),
+        };
+        let state = a.state;
+        Numbered {
+            refusal: n.refusal,
+            kind: n.kind,
+            given_up: n.given_up,
+            missing: n.missing,
+            octets: n.octets,
+            place: n.place,
+            state,
+        }
     }
 }
 
@@ -141,7 +153,7 @@ pub extern "C" fn branmuslin_take_packet(
     ensures pool_after { pool.new ≡ taking_pool state lane packet.now (length out.old) pool.old }
     ensures out_after { out.new ≡ taking_out state lane packet.now pool.old out.old }
 {
-    in_numbers(intake::take_packet(state, lane, packet, pool, out))
+    Numbered::from(intake::take_packet(state, lane, packet, pool, out))
 }
 
 // Closes a lane and writes its credit record at the front of out.

@@ -8,26 +8,19 @@ ghost use Rattle.octets.specs.Output.{put as puts};
 ghost use Rattle.listing.specs.Listing.{listing, recording_text};
 ghost use Rattle.listing.specs.Told.{told, listed, after, octets_of};
 
-use lines::{put_end, put_packet};
+use lines::{put_end, put_found};
 use text::put;
 use walk::look_at;
 
-// What listing gives: the octets written, or that the output is too short.
-#[derive(Clone, Copy)]
-pub enum Listed {
-    Octets(usize),
-    TooShort,
-}
-
-// Writes the listing of s at the front of out, if it fits.
-pub fn list(s: &[u8], out: &mut [u8]) -> Listed
+// Writes the listing of s at the front of out, if it fits, and answers its octets; None where out is too short.
+pub fn list(s: &[u8], out: &mut [u8]) -> Option<usize>
     ensures result_value { told result ≡ listed (listing s.now) (length out.old) }
     ensures out_after { out.new ≡ after (listing s.now) out.old }
 {
     if has_room(s, out.len()) {
-        Listed::Octets(put_all(s, out))
+        Some(put_all(s, out))
     } else {
-        Listed::TooShort
+        None
     }
 }
 
@@ -35,7 +28,7 @@ pub fn list(s: &[u8], out: &mut [u8]) -> Listed
 pub const LONGEST: usize = 65536;
 
 // Writes the text for a recording at the front of out, if it fits: its listing, or `too long`.
-pub fn list_recording(s: &[u8], out: &mut [u8]) -> Listed
+pub fn list_recording(s: &[u8], out: &mut [u8]) -> Option<usize>
     ensures result_value { told result ≡ listed (recording_text s.now) (length out.old) }
     ensures out_after { out.new ≡ after (recording_text s.now) out.old }
 {
@@ -44,28 +37,18 @@ pub fn list_recording(s: &[u8], out: &mut [u8]) -> Listed
     }
     // `too long` and the end of its line have 9 octets.
     if out.len() < 9 {
-        return Listed::TooShort;
+        return None;
     }
-    Listed::Octets(put(out, 0, b"too long\n"))
-}
-
-// The number of octets written, or 0.
-pub fn octets_of(listed: Listed) -> usize
-    ensures { result ≡ octets_of listed }
-{
-    match listed {
-        Listed::Octets(n) => n,
-        Listed::TooShort => 0,
-    }
+    Some(put(out, 0, b"too long\n"))
 }
 
 // The octets of text that were written, as a part of it; none where it was too short.
-pub fn written(listed: Listed, text: &[u8]) -> &[u8]
+pub fn written(listed: Option<usize>, text: &[u8]) -> &[u8]
     ensures result_value { result.now ≡ take (octets_of listed) text.now }
     ensures ref_ptr_value { result.ref_ptr ≡ text.entry.ref_ptr }
 {
-    let n = octets_of(listed);
-    if n <= text.len() { &text[..n] } else { text }
+    let octets = listed.unwrap_or(0);
+    &text[..octets.min(text.len())]
 }
 
 // The most octets that the text for a recording has (`room`, proofs/Room.antt).
@@ -85,7 +68,9 @@ fn has_room(s: &[u8], room: usize) -> bool
 }
 
 // Whether the listing of s has at most `room` octets. The output must stay untouched where it doesn't fit, so each line is made in an array
-// first, and again by `put_all`; no line has more than 128 octets (proofs/Short.antt).
+// first, and again by `put_all`; no line has more than 128 octets (proofs/Short.antt). The two loops are the form that the paper names (`walk`). One function for both
+// would need a trait with a type for the array and a type for the output, of more lines than a loop: a closure that puts into what it borrowed leaves a proof nothing
+// to say of that.
 fn fits(s: &[u8], room: usize) -> bool
     ensures { result ≡ leb (length (listing s.now)) room }
 {
@@ -98,18 +83,19 @@ fn fits(s: &[u8], room: usize) -> bool
             break left;
         }
         let found = look_at(s, at);
-        let p = found.packet;
-        let line = put_packet(&mut scratch, 0, at, p);
+        let line = put_found(&mut scratch, 0, at, found);
         // Where a line doesn't fit there is no room for the last one either.
         if left < line {
             break 0;
         }
         left -= line;
-        if found.refused != 0 {
-            break left;
+        match found {
+            Ok(found) => {
+                at = found.next;
+                packets += 1;
+            }
+            Err(_) => break left,
         }
-        at = found.next;
-        packets += 1;
     };
     put_end(&mut scratch, 0, at, packets) <= last
 }
@@ -128,13 +114,14 @@ fn put_all(s: &[u8], out: &mut [u8]) -> usize
             break to;
         }
         let found = look_at(s, at);
-        let p = found.packet;
-        to = put_packet(out, to, at, p);
-        if found.refused != 0 {
-            break to;
+        to = put_found(out, to, at, found);
+        match found {
+            Ok(found) => {
+                at = found.next;
+                packets += 1;
+            }
+            Err(_) => break to,
         }
-        at = found.next;
-        packets += 1;
     };
     put_end(out, last, at, packets)
 }

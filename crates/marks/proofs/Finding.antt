@@ -1,13 +1,13 @@
 -- What carries every search: a front block either has the mark or is passed, and what is passed never matters again.
-use Prim.Native.Nat.{ℕ, zero, suc, ◌+◌, ◌≤◌, ◌<◌}
+use Prim.Native.Nat.{ℕ, zero, suc, ◌+◌, ◌-◌, ◌≤◌, ◌<◌, min}
 use mathlib.Core.Path.{◌≡◌, refl, sym, ap, ◌∙◌}
 use mathlib.Core.List.{List, [], ◌∷◌}
 use native.Mathlib.Decide.{ℕ_discrete, dec_lt}
 use native.Mathlib.Numerals.{add-one}
 use native.Mathlib.Omega.{arith}
 use borrow.Author.Tests.{eq-eqb, ne_eqb}
-use lib.ListN.{length, get_or, set, drop, drop_of_length-le}
-use lib.Seq.{drop-cons}
+use lib.ListN.{length, get_or, set, take, drop, drop_of_length-le, length-drop}
+use lib.Seq.{drop-cons, take_all}
 use Rattle.marks.specs.Blocks.{find}
 
 -- two numbers are the same or differ
@@ -46,6 +46,18 @@ module _ (marks : List ℕ) (block m : ℕ) where
 
   pub is_nowhere : length marks ≤ block → find (drop block marks) m ≡ 0
   is_nowhere h = rw (drop_of_length-le marks h) (in_none m)
+
+-- what a search from a block on goes through: nothing, where that is past the last
+pub rest_is : (marks : List ℕ) (from at : ℕ) → at ≡ min from (length marks) → take (length marks - at) (drop at marks) ≡ drop from marks
+rest_is marks from at e =
+    by_order from (length marks)
+    (λ h.
+    let here : at ≡ from = omega arith in
+    rw here (take_all (length marks - from) (drop from marks) (omega (arith, length-drop from marks))))
+    (λ h.
+    let end : at ≡ length marks = omega arith in
+    let none : length marks - length marks ≡ 0 = omega arith in
+    rw (end, none, drop_of_length-le marks h))
 
 -- what stands before the block that is found may be left out
 pub from_there : (marks : List ℕ) (block m : ℕ) → block ≤ find marks m → block + find (drop block marks) m ≡ find marks m

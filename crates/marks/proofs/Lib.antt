@@ -1,5 +1,6 @@
 pub mod Finding
 pub mod Turns
+pub mod Made
 pub mod Looking
 pub mod Seeing
 pub mod Leaving

@@ -1,28 +1,19 @@
 -- What carries the test of the marks: one lane or block is one clause of the definition, and the rest is left to the turns after it.
-use Prim.Native.Nat.{ℕ, zero, suc, ◌+◌, ◌≤◌, ◌<◌}
+use Prim.Native.Nat.{ℕ, zero, suc, ◌+◌, ◌*◌, ◌≤◌, ◌<◌}
 use mathlib.Core.Path.{◌≡◌, refl, sym, ◌∙◌}
-use mathlib.Core.Bool.{Bool, true, false, ◌&&◌}
+use mathlib.Core.Bool.{Bool, cond, true, false, ◌&&◌}
 use mathlib.Core.List.{List, [], ◌∷◌}
 use native.Mathlib.Numerals.{add-one}
 use native.Mathlib.Omega.{arith}
 use borrow.Author.Tests.{eq-eqb, ne_eqb}
-use lib.ListN.{length, get_or, set, drop, drop_of_length-le}
-use lib.Seq.{drop-cons, get_or-set_same, get_or-set_other}
+use lib.ListN.{length, get_or, drop, drop_of_length-le}
+use lib.Seq.{drop-cons}
+use Rattle.std.specs.List.{count_by, sum as total}
+use Rattle.std.proofs.lemmas.List.Recursion.{is_sum_by}
 use Rattle.marks.specs.Blocks.{blocks}
 use Rattle.octets.specs.Octets.{one}
 use Rattle.marks.specs.Matching.{found, holds, each_holds, count, is_free, sum, matching}
 use Rattle.marks.proofs.Finding.{by_case}
-
--- ---- a table whose entries from `from` on are written one after the other: entry q gets f q
-abbrev pub Written : (ℕ → ℕ) → ℕ → ℕ → List ℕ → Type 0
-Written f from to table = (q : ℕ) → from ≤ q → q < to → get_or table q 0 ≡ f q
-
-pub write_turn : (f : ℕ → ℕ) (from place v : ℕ) (table : List ℕ) → place < length table → v ≡ f place → Written f from place table
-    → Written f from (place + 1) (set table place v)
-write_turn f from place v table h e written q low high =
-    by_case q place
-    (λ z. rw z (get_or-set_same table place v 0 h ∙ e))
-    (λ d. get_or-set_other table place q v 0 d ∙ written q low (omega arith))
 
 -- ---- one lane after the other
 module _ (marks held : List ℕ) (lane : ℕ) (h : lane < length held) where
@@ -46,14 +37,19 @@ none_held marks lane (n ∷ held) e =
     let none : n ≡ 0 = omega arith in
     rw none (none_held marks (lane + 1) held (omega arith))
 
--- ---- the two sums
-pub count_turn : (marks : List ℕ) (block : ℕ) → block < length marks → count is_free (drop block marks) ≡ one (is_free (get_or marks block 0)) + count is_free (drop (block + 1) marks)
-unfolding count
-count_turn marks block h = rw (add-one, drop-cons marks block 0)
+-- ---- the two sums, in the words of chains and loops
+pub counted : (p : ℕ → Bool) (marks : List ℕ) → count p marks ≡ count_by p marks
+unfolding count one
+counted p = is_sum_by (count p) (λ o. cond (p o) 1 0) refl (λ _ _. refl)
 
-pub count_end : (marks : List ℕ) (block : ℕ) → length marks ≤ block → count is_free (drop block marks) ≡ 0
-unfolding count
-count_end marks block h = rw (drop_of_length-le marks h)
+pub summed : (held : List ℕ) → sum held ≡ total held
+unfolding sum
+summed = is_sum_by sum (λ n. n) refl (λ _ _. refl)
+
+pub sum_at_most : (held : List ℕ) → ((lane : ℕ) → get_or held lane 0 < 65536) → sum held ≤ length held * 65535
+unfolding sum
+sum_at_most [] fits = omega arith
+sum_at_most (n ∷ ns) fits = omega (arith, fits 0, sum_at_most ns (λ lane. fits (suc lane)))
 
 pub one_at_most : (b : Bool) → one b ≤ 1
 unfolding one
@@ -70,14 +66,6 @@ unfolding sum
 each_at_most [] lane = omega arith
 each_at_most (n ∷ ns) zero = omega arith
 each_at_most (n ∷ ns) (suc lane) = omega (arith, each_at_most ns lane)
-
-pub sum_turn : (held : List ℕ) (lane : ℕ) → lane < length held → sum (drop lane held) ≡ get_or held lane 0 + sum (drop (lane + 1) held)
-unfolding sum
-sum_turn held lane h = rw (add-one, drop-cons held lane 0)
-
-pub sum_end : (held : List ℕ) (lane : ℕ) → length held ≤ lane → sum (drop lane held) ≡ 0
-unfolding sum
-sum_end held lane h = rw (drop_of_length-le held h)
 
 -- ---- the whole test
 and_true : (b : Bool) → (b && true) ≡ b

@@ -7,6 +7,7 @@ ghost use Rattle.std.specs.Prelude.{◌≡◌, ◌+◌, drop};
 ghost use Rattle.marks.specs.Blocks.{mark, blocks_for, find, granted, freed_mark, freed};
 ghost use Rattle.marks.specs.Matching.{matching};
 
+use std::array;
 use table::{count_free, each_holds, marks_seen, sum_held};
 
 pub const BLOCKS: usize = 64;
@@ -20,31 +21,21 @@ pub const PLACES: u16 = BLOCKS as u16;
 
 pub const FREE: u16 = LANES as u16 * PLACES;
 
-// The blocks that n octets need: rounded up, without a sum that could overflow.
+// The blocks that n octets need.
+#[tactic(auto, unfolding(crate::specs::Blocks::blocks_for))]
 pub fn blocks_for(n: usize) -> usize
     ensures { result ≡ blocks_for n }
 {
-    if n % BLOCK_OCTETS == 0 {
-        n / BLOCK_OCTETS
-    } else {
-        n / BLOCK_OCTETS + 1
-    }
+    n.div_ceil(BLOCK_OCTETS)
 }
 
-// The lowest-numbered block from block `from` on that has the mark; if none has, the number of blocks, or `from` where that is past them.
+// The lowest-numbered block from block `from` on that has the mark; if none has, the number of blocks, or `from` where that is past them:
+// the promise has a number for none, as the definition `find` has.
 pub fn find_from(marks: &[u16], from: usize, mark: u16) -> usize
     ensures { result ≡ from + find (drop from marks.now) mark }
 {
-    let mut block = from;
-    loop {
-        if marks.len() <= block {
-            break block;
-        }
-        if marks[block] == mark {
-            break block;
-        }
-        block += 1;
-    }
+    let rest = &marks[from.min(marks.len())..];
+    from + rest.iter().position(|m| *m == mark).unwrap_or(rest.len())
 }
 
 // The n lowest-numbered free blocks become the lane's blocks from, from + 1, ... Each search starts at the block that the last one found:
@@ -53,43 +44,35 @@ pub fn grant_blocks(marks: [u16; BLOCKS], lane: u8, from: u8, n: u8) -> [u16; BL
     ensures { result ≡ granted marks (mark lane from) n }
 {
     let mut after = marks;
-    let mut next = lane as u16 * PLACES + from as u16;
-    let mut left = n;
-    let mut block: usize = 0;
-    while 0 < left {
+    let mut block = 0;
+    let first = u16::from(lane) * PLACES + u16::from(from);
+    for mark in first..first + u16::from(n) {
         block = find_from(&after, block, FREE);
         if BLOCKS <= block {
             break;
         }
-        after[block] = next;
-        next += 1;
-        left -= 1;
+        after[block] = mark;
     }
     after
 }
 
 // What a block's mark becomes where the lane's blocks are freed.
+#[tactic(auto, unfolding(crate::specs::Blocks::freed_mark))]
 fn freed_mark(mark: u16, lane: u8) -> u16
     ensures { result ≡ freed_mark lane mark }
 {
-    if mark / PLACES == lane as u16 {
+    if mark / PLACES == u16::from(lane) {
         FREE
     } else {
         mark
     }
 }
 
-// The lane's blocks become free.
+// The lane's blocks become free. An array's `map` would come to several times the instructions (docs/SPEED.md, groups).
 pub fn free_blocks(marks: [u16; BLOCKS], lane: u8) -> [u16; BLOCKS]
     ensures { result ≡ freed marks lane }
 {
-    let mut after = marks;
-    let mut block: usize = 0;
-    while block < BLOCKS {
-        after[block] = freed_mark(after[block], lane);
-        block += 1;
-    }
-    after
+    array::from_fn(|block| freed_mark(marks[block], lane))
 }
 
 // Whether the marks match what the eight lanes hold. The sum goes first: the table is made only where it is 64 and some block is held.

@@ -1,33 +1,19 @@
 -- Text that is put after text is one text put once: what carries everything that is written in steps.
-use Prim.Native.Nat.{ℕ, ◌+◌, ◌-◌, ◌≤◌, ◌<◌}
+use Prim.Native.Nat.{ℕ, ◌+◌, ◌≤◌, ◌<◌}
 use mathlib.Core.Path.{◌≡◌, sym, ap, ◌∙◌}
 use mathlib.Core.List.{List, [], ◌∷◌, ◌++◌, append_assoc, append-nil}
 use native.Mathlib.Omega.{arith}
 use native.Mathlib.Nat.{add-zero, add_assoc}
 use native.Mathlib.Numerals.{unary_clauses}
 use borrow.Author.Tests.{le-leb, lt-leb}
-use borrow.Rule.Slice.PartMut.{put_mid, mid_of, Post-is}
-use lib.ListN.{length, take, drop, set, length-append, length-take, length-drop, take-append-drop, drop_of_length-le}
+use lib.ListN.{length, take, drop, set, length-append, take-append-drop}
 use lib.Seq.{take-length, drop-drop, paste, length-paste, take-paste, drop-paste, sets-eq}
 use Rattle.octets.specs.Output.{put, put_if_fits}
 
--- a copy into the part from at on puts the text there
-pub copied : (d text ys : List ℕ) (at : ℕ) → at + length text ≤ length d
-    → ys ≡ take (length text) text ++ drop (length text) (mid_of at (at + length text - at) d)
-    → put_mid at (at + length text - at) d ys ≡ put d at text
-unfolding put
-copied d text ys at h e =
-    let n : length (mid_of at (at + length text - at) d) ≤ length text = simp (length-take, length-drop) (omega arith) in
-    rw (e, take-length text, drop_of_length-le (mid_of at (at + length text - at) d) n, append-nil, Post-is at (at + length text) d (omega arith), append_assoc)
-
--- an octet that is stored, and two one after the other
+-- an octet that is stored
 pub stored_one : (d : List ℕ) (at x : ℕ) → at < length d → set d at x ≡ put d at (x ∷ [])
 unfolding put
 stored_one d at x h = simp unary_clauses (simp unary_clauses at (sets-eq (x ∷ []) d at (omega arith)))
-
-pub stored : (d : List ℕ) (at x y : ℕ) → at + 2 ≤ length d → set (set d at x) (at + 1) y ≡ put d at (x ∷ y ∷ [])
-unfolding put
-stored d at x y h = simp unary_clauses (simp unary_clauses at (sets-eq (x ∷ y ∷ []) d at h))
 
 -- what fits is put, and what doesn't is not
 module _ (d : List ℕ) (at : ℕ) (text : List ℕ) where

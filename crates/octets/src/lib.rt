@@ -8,7 +8,7 @@ ghost use Rattle.octets.specs.Octets.{octet, be16, be32};
 pub fn octet_at(s: &[u8], k: usize) -> u8
     ensures { result ≡ octet s.now k }
 {
-    if k < s.len() { s[k] } else { 0 }
+    s.get(k).copied().unwrap_or(0)
 }
 
 // The number in the two octets from index k on.
@@ -16,13 +16,15 @@ pub fn be16_at(s: &[u8], k: usize) -> u16
     ensures { result ≡ be16 s.now k }
 {
     if k < s.len() {
+        // `u16::from_be_bytes` of the two would be compiled to turn them round once more (docs/SPEED.md, walk).
         octet_at(s, k) as u16 * 256 + octet_at(s, k + 1) as u16
     } else {
         0
     }
 }
 
-// The number in the four octets from index k on.
+// The number in the four octets from index k on: that of its two halves. One function for any number of octets would be no plainer, since an array of
+// them has to be filled octet by octet first, past the end with 0.
 pub fn be32_at(s: &[u8], k: usize) -> u32
     ensures { result ≡ be32 s.now k }
 {

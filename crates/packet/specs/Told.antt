@@ -1,35 +1,37 @@
--- What the reader's enum tells, as the paper's number and values.
-use Rattle.std.specs.Prelude.{ℕ, ◌+◌, List, [], ◌∷◌}
+-- What reading tells, as the paper's number and values.
+use Rattle.std.specs.Prelude.{ℕ, ◌+◌, List, [], ◌∷◌, Result, Ok, Err}
+use Rattle.refusal.specs.Refusal.{number}
 use Rattle.packet.specs.Space.{space_header}
 use Rattle.packet.specs.declared.Packet.{Packet}
-use Rattle.packet.specs.declared.Packet.TheVariants.{Space, Encapsulation, Refused}
+use Rattle.packet.specs.declared.Packet.TheVariants.{Space, Encapsulation}
+use Rattle.packet.specs.declared.Unread.{Unread}
+
+-- the version and the fields
+abbrev pub fields_of : Packet → List ℕ
+fields_of (Space packet_type secondary apid flags count octets) = 0 ∷ packet_type ∷ secondary ∷ apid ∷ flags ∷ count ∷ octets ∷ []
+fields_of (Encapsulation protocol user extension header octets) = 7 ∷ protocol ∷ user ∷ extension ∷ header ∷ octets ∷ []
 
 -- no refusal (0), the version and the fields; or the number of the refusal and its place
-abbrev pub told : Packet → List ℕ
-told (Space packet_type secondary apid flags count octets) = 0 ∷ 0 ∷ packet_type ∷ secondary ∷ apid ∷ flags ∷ count ∷ octets ∷ []
-told (Encapsulation protocol user extension header octets) = 0 ∷ 7 ∷ protocol ∷ user ∷ extension ∷ header ∷ octets ∷ []
-told (Refused place number) = number ∷ place ∷ []
+abbrev pub told : Result Packet Unread → List ℕ
+told (Ok p) = 0 ∷ fields_of p
+told (Err u) = number u.refusal ∷ u.place ∷ []
 
 -- the refusal, or 0
-abbrev pub number_of : Packet → ℕ
-number_of (Space t x a f c n) = 0
-number_of (Encapsulation p u x h n) = 0
-number_of (Refused place number) = number
+abbrev pub number_of : Result Packet Unread → ℕ
+number_of (Ok p) = 0
+number_of (Err u) = number u.refusal
 
 -- its place, or 0
-abbrev pub place_of : Packet → ℕ
-place_of (Space t x a f c n) = 0
-place_of (Encapsulation p u x h n) = 0
-place_of (Refused place number) = place
+abbrev pub place_of : Result Packet Unread → ℕ
+place_of (Ok p) = 0
+place_of (Err u) = u.place
 
--- octets of the whole packet that was read, or 0
+-- octets of the whole packet that was read
 abbrev pub size_of : Packet → ℕ
 size_of (Space t x a f c n) = space_header + n
 size_of (Encapsulation p u x h n) = h + n
-size_of (Refused place number) = 0
 
--- octets of its header, or 0
+-- octets of its header
 abbrev pub header_of : Packet → ℕ
 header_of (Space t x a f c n) = space_header
 header_of (Encapsulation p u x h n) = h
-header_of (Refused place number) = 0

@@ -2,7 +2,9 @@
 #![tactic(auto)]
 
 ghost use Rattle.std.specs.Prelude.{◌≡◌};
-ghost use Rattle.packet.specs.Told.{number_of, place_of, size_of, header_of};
+ghost use Rattle.packet.specs.Told.{size_of, header_of};
+
+use refusal::Refusal;
 
 // The octets of a Space Packet's header.
 pub const SPACE_HEADER: usize = 6;
@@ -24,8 +26,9 @@ pub const EXTENDED: u8 = 6;
 // Our limit of octets a packet, which is the longest Space Packet's size too.
 pub const LIMIT: usize = 65542;
 
-// What reading tells. Fields that a header does not have are 0.
-#[derive(Clone, Copy)]
+// What was read. Fields that a header does not have are 0, and each is the header's own number: a caller in C is told it, and a writer is given one
+// of 32 bits. So no field of a few values is an enum or a bool.
+#[derive(Clone, Copy, Debug, PartialEq, Eq)]
 pub enum Packet {
     // type 0 is telemetry, 1 telecommand; flags 0 continuation, 1 first, 2 last, 3 unsegmented; octets are those of the data field
     Space {
@@ -44,57 +47,32 @@ pub enum Packet {
         header: u8,
         octets: u32,
     },
-    // the place of the octet at fault, counted from the packet's start, or for 1 the number of octets; and one of the numbers 1 to 7. What is cut
-    // short has fewer octets than the limit, so 32 bits suffice for the place
-    Refused {
-        place: u32,
-        number: u8,
-    },
 }
 
-// The number of the refusal that p tells, or 0.
-pub fn number_of(p: Packet) -> u8
-    ensures { result ≡ number_of p }
-{
-    match p {
-        Packet::Space { .. } => 0,
-        Packet::Encapsulation { .. } => 0,
-        Packet::Refused { number, .. } => number,
-    }
+// Why no packet was read: refusal 1 to 7, and the place of the octet at fault, counted from the packet's start, or for 1 the number of octets. What is
+// cut short has fewer octets than the limit, so 32 bits suffice for the place.
+#[derive(Clone, Copy, Debug, PartialEq, Eq)]
+pub struct Unread {
+    pub refusal: Refusal,
+    pub place: u32,
 }
 
-// What is told for a place where nothing is refused.
-const NO_PLACE: u32 = 0;
-
-// The place of the refusal that p tells, or 0.
-pub fn place_of(p: Packet) -> u32
-    ensures { result ≡ place_of p }
-{
-    match p {
-        Packet::Space { .. } => NO_PLACE,
-        Packet::Encapsulation { .. } => NO_PLACE,
-        Packet::Refused { place, .. } => place,
-    }
-}
-
-// The octets of the header that was read, or 0 for a refusal.
+// The octets of the header that was read.
 pub fn header_of(p: Packet) -> usize
     ensures { result ≡ header_of p }
 {
     match p {
         Packet::Space { .. } => SPACE_HEADER,
         Packet::Encapsulation { header, .. } => header as usize,
-        Packet::Refused { .. } => 0,
     }
 }
 
-// The octets of the whole packet that was read, or 0 for a refusal.
+// The octets of the whole packet that was read. Its match is its own: each variant's sum stands whole, and by way of `header_of` it would take another match for the content.
 pub fn size_of(p: Packet) -> usize
     ensures { result ≡ size_of p }
 {
     match p {
         Packet::Space { octets, .. } => SPACE_HEADER + octets as usize,
         Packet::Encapsulation { header, octets, .. } => header as usize + octets as usize,
-        Packet::Refused { .. } => 0,
     }
 }

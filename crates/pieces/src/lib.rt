@@ -4,13 +4,15 @@
 
 mod refusing;
 
-ghost use Rattle.std.specs.Prelude.{◌≡◌, cond, ◌&&◌, ◌||◌, ◌++◌, ◌+◌, eqb, ltb, leb, length, take};
-ghost use Rattle.pieces.specs.Pieces.{longest, judged, joined_is, rest_of};
+ghost use Rattle.std.specs.Prelude.{Result, ◌≡◌, cond, ◌&&◌, ◌||◌, ◌++◌, eqb, ltb, leb, length, take};
+ghost use Rattle.pieces.specs.Pieces.{number_told, longest, kind_of, joined_is, rest_of};
+ghost use Rattle.walk.specs.Walk.{number_stopped};
 
-use numbers::smaller;
+use packet::Unread;
 use putting::put_octets;
-use reading::sizes_in;
-use refusing::refusal_of;
+use reading::{Sizes, sizes_in};
+use refusal::Refusal;
+use refusing::{check, with_sizes};
 use walk::walk;
 
 // The most octets that a header has.
@@ -19,61 +21,45 @@ const HEADER: usize = 8;
 // The most octets that a packet of a frame recording has.
 const LONGEST: usize = 8192;
 
-// What decides it: how many octets, the refusal of reading them, or 0, and the sizes that their header announces.
+// What a piece is with the lead after it: exactly one packet, the beginning of one, or neither.
 #[derive(Clone, Copy)]
-struct Judged {
-    pub octets: usize,
-    pub number: u8,
-    pub header: usize,
-    pub size: usize,
+pub enum Joined {
+    Packet,
+    Unfinished,
+    Neither,
 }
 
-fn is_one_packet(j: Judged) -> bool
-    ensures { result ≡ eqb j.number 0 && eqb j.size j.octets && leb j.octets longest }
+// Whether so many octets that are cut short can be the beginning of a packet: their header is cut short too, or announces no longer one than a frame recording has.
+fn may_begin(octets: usize, sizes: Sizes) -> bool
+    ensures { result ≡ (ltb octets sizes.header || leb sizes.size longest) }
 {
-    (j.number == 0) & (j.size == j.octets) & (j.octets <= LONGEST)
+    (octets < sizes.header) | (sizes.size <= LONGEST)
 }
 
-fn is_unfinished(j: Judged) -> bool
-    ensures { result ≡ eqb j.number 1 && (ltb j.octets j.header || leb j.size longest) }
+// What so many octets are that are read so, and whose header announces these sizes.
+fn kind_of(read: Result<(), Refusal>, octets: usize, sizes: Sizes) -> Joined
+    ensures { result ≡ kind_of (number_told read) octets sizes.header sizes.size }
 {
-    (j.number == 1) & ((j.octets < j.header) | (j.size <= LONGEST))
-}
-
-fn judge(s: &[u8]) -> Judged
-    ensures { result ≡ judged s.now }
-{
-    let sizes = sizes_in(s);
-    Judged {
-        octets: s.len(),
-        number: refusal_of(s, sizes),
-        header: sizes.header,
-        size: sizes.size,
+    match read {
+        Ok(()) if (sizes.size == octets) & (octets <= LONGEST) => Joined::Packet,
+        Err(Refusal::CutShort) if may_begin(octets, sizes) => Joined::Unfinished,
+        _ => Joined::Neither,
     }
 }
 
-// The refusal of n octets, from what decides of the first eight, or of all if there are fewer: eight hold every header, so what is cut short there may be whole.
-fn number_of_all(front: Judged, n: usize) -> u8
-    ensures { result ≡ cond (eqb front.number 1 && leb 8 n && leb front.size n) 0 front.number }
+// How n octets are read, from how the first eight are, or all if there are fewer: eight hold every header, so what is cut short there may be whole.
+fn read_of_all(front: Result<(), Refusal>, size: usize, n: usize) -> Result<(), Refusal>
+    ensures { number_told result ≡ cond (eqb (number_told front) 1 && leb 8 n && leb size n) 0 (number_told front) }
 {
-    if (front.number == 1) & (HEADER <= n) & (front.size <= n) {
-        0
-    } else {
-        front.number
+    match front {
+        Err(Refusal::CutShort) if (HEADER <= n) & (size <= n) => Ok(()),
+        _ => front,
     }
-}
-
-// What a piece is with the lead after it: one packet, or unfinished.
-#[derive(Clone, Copy)]
-pub struct Joined {
-    pub whole: bool,
-    pub unfinished: bool,
 }
 
 // Puts the first eight octets of a piece with the lead after it side by side, or all of them if there are fewer, and tells how many. A piece that has eight is the
 // common one: so many octets are one move.
-fn fill_front(piece: &[u8], lead: &[u8], front: &mut [u8]) -> usize
-    requires { length front.old ≡ 8 }
+fn fill_front(piece: &[u8], lead: &[u8], front: &mut [u8; HEADER]) -> usize
     ensures front_after { take result front.new ≡ take 8 (piece.now ++ lead.now) }
     ensures value { result ≡ length (take 8 (piece.now ++ lead.now)) }
 {
@@ -81,7 +67,7 @@ fn fill_front(piece: &[u8], lead: &[u8], front: &mut [u8]) -> usize
         put_octets(front, 0, &piece[..HEADER]);
         return HEADER;
     }
-    let b = smaller(lead.len(), HEADER - piece.len());
+    let b = lead.len().min(HEADER - piece.len());
     put_octets(front, 0, piece);
     put_octets(front, piece.len(), &lead[..b]);
     piece.len() + b
@@ -93,21 +79,14 @@ pub fn judge_joined(piece: &[u8], lead: &[u8]) -> Joined
 {
     let mut front = [0u8; HEADER];
     let end = fill_front(piece, lead, &mut front);
-    let j = judge(&front[..end]);
+    let first = with_sizes(&front[..end]);
     let octets = piece.len() + lead.len();
-    let all = Judged {
-        octets,
-        number: number_of_all(j, octets),
-        header: j.header,
-        size: j.size,
-    };
-    Joined {
-        whole: is_one_packet(all),
-        unfinished: is_unfinished(all),
-    }
+    let read = read_of_all(check(first), first.sizes.size, octets);
+    kind_of(read, octets, first.sizes)
 }
 
-// A field from its pointer on: where that is (from), where the whole packets end (to), how many there are, and whether what is left after them is dropped.
+// A field from its pointer on: where that is (from), where the whole packets end (to), how many there are, and whether what is left after them is dropped. No number here
+// depends on the flag: it is no Option of them.
 #[derive(Clone, Copy)]
 pub struct Rest {
     pub from: usize,
@@ -116,31 +95,29 @@ pub struct Rest {
     pub dropped: bool,
 }
 
-// The refusal of what is left where a walk stopped with so much: at the end nothing is left, which is 1.
-fn number_left(stop: u8) -> u8
-    ensures { result ≡ cond (eqb stop 0) 1 stop }
+// Whether what is left where a walk stopped so is cut short: at the end nothing is left, which is so too.
+fn is_cut_short(stopped: Option<Unread>) -> bool
+    ensures { result ≡ leb (number_stopped stopped) 1 }
 {
-    if stop == 0 { 1 } else { stop }
+    match stopped {
+        None => true,
+        Some(unread) => matches!(unread.refusal, Refusal::CutShort),
+    }
 }
 
 // Reads whole packets from the pointer on. A pointer past the end of the field leaves nothing to read.
 pub fn read_on(field: &[u8], pointer: usize) -> Rest
     ensures { result ≡ rest_of field.now pointer }
 {
-    let from = smaller(field.len(), pointer);
+    let from = field.len().min(pointer);
     let walked = walk(&field[from..]);
     let to = from + walked.at;
     let sizes = sizes_in(&field[to..]);
-    let left = Judged {
-        octets: field.len() - to,
-        number: number_left(walked.refused),
-        header: sizes.header,
-        size: sizes.size,
-    };
+    let is_unfinished = is_cut_short(walked.stopped) & may_begin(field.len() - to, sizes);
     Rest {
         from,
         to,
         packets: walked.packets,
-        dropped: !is_unfinished(left),
+        dropped: !is_unfinished,
     }
 }

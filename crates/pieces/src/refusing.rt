@@ -1,28 +1,54 @@
-// The number that the reader refuses some octets with, worked out without the fields and the place. `read_packet` is then called from one place alone, the walk, and
-// compiled into it; two callers of it cost a frame of small packets more than all else (docs/SPEED.md).
-ghost use Rattle.std.specs.Prelude.{◌≡◌};
+// Why the reader refuses some octets, worked out without the fields and the place. These tests are the reader's own a second time, since two callers of `read_packet` cost a
+// frame of small packets more than all else (docs/SPEED.md): it is called from one place alone, the walk, and compiled into it.
+ghost use Rattle.std.specs.Prelude.{Result, ◌≡◌, ◌≤◌, ◌<◌, length, MatchResult};
+ghost use Rattle.refusal.specs.declared.Refusal.TheVariants.{CutShort};
 ghost use Rattle.packet.specs.Encapsulation.{encap_header, misnamed};
-ghost use Rattle.reading.specs.Reading.{announced, refusal};
+ghost use Rattle.reading.specs.Reading.{header, size, refusal};
 ghost use Rattle.reading.specs.Causes.{Version};
+ghost use Rattle.pieces.specs.Pieces.{number_told};
 
 use octets::{be16_at, octet_at};
 use packet::{APIDS, EXTENDED, IDLE, LIMIT, SPACE_HEADER};
-use reading::Sizes;
+use reading::{Sizes, sizes_in};
+use refusal::Refusal;
 
-fn space_refusal(s: &[u8], sizes: Sizes) -> u8
-    requires { Version 0 s.now × (sizes ≡ announced s.now) }
-    ensures { result ≡ refusal s.now }
+// Refuses octets that end before so many.
+fn needs(s: &[u8], n: usize) -> Result<(), Refusal>
+    ensures { MatchResult result (λ _. n ≤ length s.now) (λ r. (r ≡ CutShort) × (length s.now < n)) }
 {
-    if s.len() < SPACE_HEADER {
-        return 1;
+    if s.len() < n {
+        Err(Refusal::CutShort)
+    } else {
+        Ok(())
     }
+}
+
+// Some octets, with the sizes that they announce.
+#[derive(Clone, Copy)]
+pub(crate) struct Announcing<'a> {
+    pub octets: &'a [u8],
+    pub sizes: Sizes,
+    ghost header_announced: { sizes.header ≡ header octets.now },
+    ghost size_announced: { sizes.size ≡ size octets.now },
+}
+
+pub(crate) fn with_sizes(octets: &[u8]) -> Announcing<'_>
+    ensures { result.octets.now ≡ octets.now }
+{
+    let sizes = sizes_in(octets);
+    Announcing { octets, sizes }
+}
+
+fn check_space(packet: Announcing<'_>) -> Result<(), Refusal>
+    requires { Version 0 packet.octets.now }
+    ensures { number_told result ≡ refusal packet.entry.octets.now }
+{
+    let s = packet.octets;
+    needs(s, SPACE_HEADER)?;
     if (be16_at(s, 0) % APIDS == IDLE) & (octet_at(s, 0) / 8 % 2 == 1) {
-        return 3;
+        return Err(Refusal::IdleFlagged);
     }
-    if s.len() < sizes.size {
-        return 1;
-    }
-    0
+    needs(s, packet.sizes.size)
 }
 
 // Whether the fields of a header that is there name no protocol; a field that it does not have is 0.
@@ -43,45 +69,37 @@ fn is_misnamed(s: &[u8], header: usize) -> bool
     be16_at(s, 2) != 0
 }
 
-fn encap_refusal(s: &[u8], sizes: Sizes) -> u8
-    requires { Version 7 s.now × (sizes ≡ announced s.now) }
-    ensures { result ≡ refusal s.now }
+fn check_encapsulation(packet: Announcing<'_>) -> Result<(), Refusal>
+    requires { Version 7 packet.octets.now }
+    ensures { number_told result ≡ refusal packet.entry.octets.now }
 {
-    if s.len() < sizes.header {
-        return 1;
+    let s = packet.octets;
+    let Sizes { header, size } = packet.sizes;
+    needs(s, header)?;
+    if is_misnamed(s, header) {
+        return Err(Refusal::NamesNothing);
     }
-    if is_misnamed(s, sizes.header) {
-        return 7;
+    if size < header {
+        return Err(Refusal::UnderHeader);
     }
-    if sizes.size < sizes.header {
-        return 4;
+    if LIMIT < size {
+        return Err(Refusal::OverLimit);
     }
-    if LIMIT < sizes.size {
-        return 5;
+    if (size - header == 0) & (octet_at(s, 0) / 4 % 8 != 0) {
+        return Err(Refusal::NoContent);
     }
-    if (sizes.size - sizes.header == 0) & (octet_at(s, 0) / 4 % 8 != 0) {
-        return 6;
-    }
-    if s.len() < sizes.size {
-        return 1;
-    }
-    0
+    needs(s, size)
 }
 
-// The refusal of octets that announce these sizes, or 0.
-pub(crate) fn refusal_of(s: &[u8], sizes: Sizes) -> u8
-    requires { sizes ≡ announced s.now }
-    ensures { result ≡ refusal s.now }
+// Refuses octets as the reader does.
+pub(crate) fn check(packet: Announcing<'_>) -> Result<(), Refusal>
+    ensures { number_told result ≡ refusal packet.entry.octets.now }
 {
-    if s.len() == 0 {
-        return 1;
+    let s = packet.octets;
+    needs(s, 1)?;
+    match octet_at(s, 0) / 32 % 8 {
+        0 => check_space(packet),
+        7 => check_encapsulation(packet),
+        _ => Err(Refusal::BadVersion),
     }
-    let version = octet_at(s, 0) / 32 % 8;
-    if version == 0 {
-        return space_refusal(s, sizes);
-    }
-    if version == 7 {
-        return encap_refusal(s, sizes);
-    }
-    2
 }

@@ -5,38 +5,22 @@ use mathlib.Core.List.{List, [], ◌∷◌, ◌++◌, append-nil, append_assoc}
 use native.Mathlib.Decide.{dec_lt}
 use native.Mathlib.Nat.{add-zero, zero-add, suc-add}
 use native.Mathlib.Omega.{arith}
-use lib.ListN.{length, get_or, set, take, drop, length-set, length-append, length-take, length-drop, take-append-drop, drop_of_length-le}
-use lib.Seq.{sets, sets-eq, set_out, length-take-le, take-nil, take-length, take_all, drop-drop}
+use lib.ListN.{length, get_or, set, take, drop, length-set, length-append, length-take, take-append-drop}
+use lib.Seq.{sets, sets-eq, set_out, length-take-le, take-nil}
 use Rattle.octets.specs.Output.{put, put_if_fits}
 use Rattle.octets.proofs.Puts.{put_fits, not_put, Wrote, Fits, then_put}
 use Rattle.marks.specs.Blocks.{blocks, block_octets, mark, blocks_for, find}
 use Rattle.pool.specs.Lookup.{ListsLane}
 use Rattle.pool.specs.Octets.{pool_octets, place, stored, gathered}
 
--- more than there are, told by how many there are
-take_within : (n : ℕ) (l : List ℕ) → take (min n (length l)) l ≡ take n l
-take_within n l =
-    elim (dec_lt n (length l)) [
-      | yes h ↦ let e : min n (length l) ≡ n = omega arith in rw e
-      | no h ↦ let e : min n (length l) ≡ length l = omega arith in rw (e, take-length l, take_all n l (omega arith))
-    ]
-
 pub short : (n : ℕ) (l text : List ℕ) → text ≡ take n l → length text ≤ n
 short n l text e = rw (e, length-take n l) (omega arith)
 
--- a place past the end, told by the end
-drop_within : (p : ℕ) (l : List ℕ) → drop (min p (length l)) l ≡ drop p l
-drop_within p l =
-    elim (dec_lt p (length l)) [
-      | yes h ↦ let e : min p (length l) ≡ p = omega arith in rw e
-      | no h ↦ let e : min p (length l) ≡ length l = omega arith in rw (e, drop_of_length-le l {i = p} (omega arith), drop_of_length-le l {i = length l} (omega arith))
-    ]
-
-pub clamped : (s : List ℕ) (at n start size : ℕ) → start ≡ min at (length s) → size ≡ min n (length s - start)
-    → take (start + size - start) (drop start s) ≡ take n (drop at s)
-clamped s at n start size e f =
-    let same : start + size - start ≡ min n (length (drop start s)) = omega (arith, length-drop start s) in
-    rw (same, take_within n (drop start s), e, drop_within at s)
+-- the blocks of n octets: each that is gone through begins within the group
+module _ (n block all : ℕ) (e : all ≡ blocks_for n) where
+  pub inside : block < all → block * block_octets < n
+  unfolding blocks_for
+  inside h = omega arith
 
 -- stores past the end
 sets_out : (l : List ℕ) (i : ℕ) (vs : List ℕ) → length l ≤ i → sets l i vs ≡ l
@@ -119,33 +103,28 @@ module _ (marks : List ℕ) (lane : ℕ) where
       omega (arith, length-append (take 1 (drop (place marks lane k) pool)) (gathered marks lane pool (k + 1) n), length-take 1 (drop (place marks lane k) pool), gathered_at_most pool (k + 1) n)
 
   -- ---- a turn of each loop
-  module _ (pool : List ℕ) (from done run at : ℕ) (octets after : List ℕ) (size : length pool ≡ pool_octets) (more : done < length octets)
-      (r : run ≡ min (block_octets - (from + done) % block_octets) (length octets - done)) (a : at ≡ place marks lane (from + done))
-      (e : after ≡ put_if_fits pool at (take (done + run - done) (drop done octets))) where
+  module _ (pool : List ℕ) (k run at : ℕ) (left after : List ℕ) (size : length pool ≡ pool_octets) (some : 0 < length left)
+      (r : run ≡ min (length left) (block_octets - k % block_octets)) (a : at ≡ place marks lane k) (e : after ≡ put_if_fits pool at (take run left)) where
     abbrev text : List ℕ
-    text = take run (drop done octets)
+    text = take run left
 
     text_length : length text ≡ run
-    text_length = length-take-le run (drop done octets) (omega (arith, length-drop done octets))
+    text_length = length-take-le run left (omega arith)
 
-    run_is : stored marks lane pool (from + done) text ≡ after
-    run_is =
-        let same : done + run - done ≡ run = omega arith in
-        run_put pool (from + done) at text size a (omega (arith, text_length)) (omega (arith, text_length)) ∙ sym (e ∙ rw same)
+    run_is : stored marks lane pool k text ≡ after
+    run_is = run_put pool k at text size a (omega (arith, text_length)) (omega (arith, text_length)) ∙ sym e
 
-    pub store_turn : stored marks lane pool (from + done) (drop done octets) ≡ stored marks lane after (from + (done + run)) (drop (done + run) octets)
+    pub store_turn : stored marks lane pool k left ≡ stored marks lane after (k + length text) (drop run left)
     store_turn =
-        let far : from + done + length text ≡ from + (done + run) = omega (arith, text_length) in
-        ap (stored marks lane pool (from + done)) (sym (take-append-drop run (drop done octets)))
-        ∙ stored_then pool (from + done) text (drop run (drop done octets))
-        ∙ rw (run_is, far, drop-drop)
+        ap (stored marks lane pool k) (sym (take-append-drop run left)) ∙ stored_then pool k text (drop run left) ∙ rw run_is
 
     pub turn_length : length after ≡ pool_octets
-    turn_length = sym (ap length run_is) ∙ stored_length pool (from + done) text ∙ size
+    turn_length = sym (ap length run_is) ∙ stored_length pool k text ∙ size
 
-  pub store_ends : (pool : List ℕ) (k done : ℕ) (octets : List ℕ) → length octets ≤ done → stored marks lane pool k (drop done octets) ≡ pool
+  pub store_ends : (pool : List ℕ) (k : ℕ) (left : List ℕ) → length left ≡ 0 → stored marks lane pool k left ≡ pool
   unfolding stored
-  store_ends pool k done octets h = rw (drop_of_length-le octets h)
+  store_ends pool k [] h = refl
+  store_ends pool k (d ∷ left) h = absurd (omega arith)
 
   module _ (pool out₀ : List ℕ) (n k run at to p : ℕ) (out text after : List ℕ) (room : n ≤ length out₀) (more : k < n)
       (w : Wrote out₀ 0 (gathered marks lane pool 0 k) out at)

@@ -6,14 +6,13 @@ ghost use Rattle.pool.specs.Octets.{pool_octets, stored, gathered};
 
 use crate::table::blocks_of_lane;
 use marks::{BLOCK_OCTETS, BLOCKS, blocks_for};
-use numbers::smaller;
 use putting::put_octets;
 
 // Where octet k of a group lies in the pool, in this block.
 fn in_block(block: u8, k: usize) -> usize
     ensures { result ≡ block * block_octets + k % block_octets }
 {
-    block as usize * BLOCK_OCTETS + k % BLOCK_OCTETS
+    usize::from(block) * BLOCK_OCTETS + k % BLOCK_OCTETS
 }
 
 // The same by a table, at whose entry for octet k its block stands.
@@ -28,14 +27,20 @@ fn place_listed(table: &[u8; BLOCKS], k: usize) -> usize
 fn part(s: &[u8], at: usize, n: usize) -> &[u8]
     ensures { result.now ≡ take n (drop at s.now) }
 {
-    let start = smaller(at, s.len());
-    let end = start + smaller(n, s.len() - start);
-    &s[start..end]
+    let rest = &s[at.min(s.len())..];
+    &rest[..n.min(rest.len())]
 }
 
-// The octets become octets from, from + 1, .. of the lane's group.
-pub(crate) fn store_runs(marks: &[u16], lane: u8, pool: &mut [u8], from: usize, octets: &[u8])
-    requires { (length marks.now ≡ blocks) × (length pool.old ≡ pool_octets) × (from + length octets.now ≤ pool_octets) }
+// The octets become octets from, from + 1, .. of the lane's group. The first run may begin inside a block, so the runs are no chunks of one size.
+#[tactic(auto, unfolding(marks::specs::Blocks::blocks_for))]
+pub(crate) fn store_runs(
+    marks: &[u16; BLOCKS],
+    lane: u8,
+    pool: &mut [u8],
+    from: usize,
+    octets: &[u8],
+)
+    requires { (length pool.old ≡ pool_octets) × (from + length octets.now ≤ pool_octets) }
     ensures { pool.new ≡ stored marks.now lane pool.old from octets.now }
 {
     let table = blocks_of_lane(
@@ -44,30 +49,36 @@ pub(crate) fn store_runs(marks: &[u16], lane: u8, pool: &mut [u8], from: usize, 
         from / BLOCK_OCTETS,
         blocks_for(from + octets.len()),
     );
-    let mut done: usize = 0;
-    while done < octets.len() {
-        let k = from + done;
-        let end = done + smaller(BLOCK_OCTETS - k % BLOCK_OCTETS, octets.len() - done);
-        put_octets(pool, place_listed(&table, k), &octets[done..end]);
-        done = end;
+    let mut k = from;
+    let mut left = octets;
+    while !left.is_empty() {
+        let (run, rest) = left.split_at(left.len().min(BLOCK_OCTETS - k % BLOCK_OCTETS));
+        put_octets(pool, place_listed(&table, k), run);
+        k += run.len();
+        left = rest;
     }
 }
 
 // Puts the first n octets of the lane's group at the front of out, and tells how many were put.
-pub(crate) fn gather_runs(marks: &[u16], lane: u8, pool: &[u8], n: usize, out: &mut [u8]) -> usize
-    requires { (length marks.now ≡ blocks) × (n ≤ length out.old) × (n ≤ pool_octets) }
+#[tactic(auto, unfolding(marks::specs::Blocks::blocks_for))]
+pub(crate) fn gather_runs(
+    marks: &[u16; BLOCKS],
+    lane: u8,
+    pool: &[u8],
+    n: usize,
+    out: &mut [u8],
+) -> usize
+    requires { (n ≤ length out.old) × (n ≤ pool_octets) }
     ensures value { result ≡ length (gathered marks.now lane pool.now 0 n) }
     ensures out_after { out.new ≡ puts out.old 0 (gathered marks.now lane pool.now 0 n) }
 {
     let table = blocks_of_lane(marks, lane, 0, blocks_for(n));
-    let mut at: usize = 0;
-    let mut k: usize = 0;
-    while k < n {
-        let run = smaller(BLOCK_OCTETS - k % BLOCK_OCTETS, n - k);
-        let text = part(pool, place_listed(&table, k), run);
+    let mut at = 0;
+    for place in 0..blocks_for(n) {
+        let k = place * BLOCK_OCTETS;
+        let text = part(pool, place_listed(&table, k), BLOCK_OCTETS.min(n - k));
         put_octets(out, at, text);
         at += text.len();
-        k += run;
     }
     at
 }

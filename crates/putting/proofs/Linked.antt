@@ -3,8 +3,10 @@ use mathlib.Core.Bool.{true}
 use prog.Linked.{Tree, World, Holds, in_world}
 use prog.LinkedThreads.{HasT}
 use Rattle.putting.proofs.TheLink as Link
-use Rattle.std.proofs.prelude.U8Clone.clone.Symbol as clone
-use Rattle.std.below.core.proofs.slice.edits.slice+T.copy_from_slice.Symbol as copy_from_slice
+use Rattle.std.proofs.prelude.U8Clone.clone.Symbol as U8Clone_clone
+use Rattle.std.below.core.proofs.int.u16.to_be_bytes.Symbol as u16_to_be_bytes
+use Rattle.std.below.core.proofs.int.u32.to_be_bytes.Symbol as u32_to_be_bytes
+use Rattle.std.below.core.proofs.slice.edits.slice+T.copy_from_slice.Symbol as slice_copy_from_slice
 use Rattle.putting.proofs.put_octets.Symbol as own_put_octets
 use Rattle.putting.proofs.put_octet.Symbol as own_put_octet
 use Rattle.putting.proofs.put_be16.Symbol as own_put_be16
@@ -16,9 +18,11 @@ table = Link.table
 -- what it calls of other crates
 abbrev pub Calls : World → Type 0
 Calls W =
-    HasT (in_world W) true clone.code ×
-    (HasT (in_world W) true copy_from_slice.code ×
-    Unit {0})
+    HasT (in_world W) true U8Clone_clone.code ×
+    (HasT (in_world W) true u16_to_be_bytes.code ×
+    (HasT (in_world W) true u32_to_be_bytes.code ×
+    (HasT (in_world W) true slice_copy_from_slice.code ×
+    Unit {0})))
 
 pub has_put_octets : (W : World) → Holds W "putting" table → Calls W → HasT (in_world W) true own_put_octets.code
 unfolding table

@@ -15,7 +15,7 @@ fn has_room(octets: usize, at: usize, n: usize) -> bool
 // The most octets that are copied at once: those of the longest packet, so that no content or run of blocks is longer.
 const AT_ONCE: usize = 65542;
 
-// Puts text into out from index at on, if it fits.
+// Puts text into out from index at on, if it fits. Here and below output and place are handed in one by one: who calls puts each thing at a place of its own.
 pub fn put_octets(out: &mut [u8], at: usize, text: &[u8])
     ensures { out.new ≡ put_if_fits out.old at text.now }
 {
@@ -50,7 +50,7 @@ fn put_one_by_one(out: &mut [u8], at: usize, text: &[u8])
     out[at..end].copy_from_slice(text);
 }
 
-// Puts one octet at index at, if it fits.
+// Puts one octet at index at, if it fits: of one alone the test is shorter than that of `put_array` (docs/SPEED.md, write).
 pub fn put_octet(out: &mut [u8], at: usize, n: u8)
     ensures { out.new ≡ put_if_fits out.old at (n ∷ []) }
 {
@@ -63,18 +63,22 @@ pub fn put_octet(out: &mut [u8], at: usize, n: u8)
 pub fn put_be16(out: &mut [u8], at: usize, n: u16)
     ensures { out.new ≡ put_if_fits out.old at (octets2 n) }
 {
-    if has_room(out.len(), at, 2) {
-        out[at] = (n / 256 % 256) as u8;
-        out[at + 1] = (n % 256) as u8;
-    }
+    put_array::<2>(out, at, n.to_be_bytes());
 }
 
-// Puts the four octets of n from index at on, if they fit.
+// Puts the four octets of n from index at on, if they fit. The two widths have no trait in common that tells their octets: one of our own would be
+// longer than the two functions.
 pub fn put_be32(out: &mut [u8], at: usize, n: u32)
     ensures { out.new ≡ put_if_fits out.old at (octets4 n) }
 {
-    if has_room(out.len(), at, 4) {
-        put_be16(out, at, (n / 65536) as u16);
-        put_be16(out, at + 2, (n % 65536) as u16);
+    put_array::<4>(out, at, n.to_be_bytes());
+}
+
+// Puts so few octets that they are moved as one number, if they fit.
+fn put_array<const N: usize>(out: &mut [u8], at: usize, octets: [u8; N])
+    ensures { out.new ≡ put_if_fits out.old at octets.entry }
+{
+    if has_room(out.len(), at, N) {
+        put_one_by_one(out, at, &octets);
     }
 }

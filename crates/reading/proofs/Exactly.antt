@@ -8,6 +8,8 @@ use native.Mathlib.Omega.{arith}
 use borrow.Author.Tests.{eq-eqb, ne_eqb, lt-ltb, le-ltb, ltb-true, ltb-false, eqb-true, eqb-false}
 use lib.Dec.{ltb, eqb}
 use lib.ListN.{length}
+use Rattle.refusal.specs.Refusal.{number, named}
+use Rattle.refusal.proofs.Numbers.{of_its_name}
 use Rattle.octets.specs.Output.{leading}
 use Rattle.octets.specs.Order.{first, numbers_of}
 use Rattle.octets.proofs.Order.{either, leads_first}
@@ -73,6 +75,10 @@ numbered (over_limit t h) = omega arith
 numbered (no_content t h) = omega arith
 numbered (encap_packet t h) = omega arith
 
+-- and each has its name
+pub name_told : {s : List ℕ} {n : ℕ} → Cause s n → number (named n) ≡ n
+name_told {n = n} why = let k = numbered why in of_its_name n k.0 (omega (arith, k.1))
+
 -- ---- for every list of octets the packet is whole or some cause holds
 abbrev pub Verdict : List ℕ → Type 0
 Verdict s = Whole s ⊎ ((n : ℕ) × Cause s n)
@@ -119,6 +125,10 @@ module _ (s : List ℕ) where
 
   pub exactly_whole : (refusal s ≡ 0 → Whole s) × (Whole s → refusal s ≡ 0)
   exactly_whole = (λ e. ⊎_elim (λ w. w) (λ k. absurd (omega (arith, gives k.1, numbered k.1))) verdict, whole_gives)
+
+-- a refusal has a name
+pub named_refusal : (s : List ℕ) → (refusal s ≡ 0 → ⊥) → number (named (refusal s)) ≡ refusal s
+named_refusal s some = ⊎_elim (λ w. absurd (some (whole_gives w))) (λ k. ap (λ n. number (named n)) (gives k.1) ∙ name_told k.1 ∙ sym (gives k.1)) (verdict s)
 
 pub refusal_most : (s : List ℕ) → refusal s ≤ 7
 refusal_most s = ⊎_elim (λ w. omega (arith, whole_gives w)) (λ k. omega (arith, gives k.1, numbered k.1)) (verdict s)

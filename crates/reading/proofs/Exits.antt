@@ -1,18 +1,18 @@
 -- What the readers' code has computed is what the definitions say, in plain variables; and a refusal is told with its place.
 use Prim.Native.Nat.{ℕ, ◌-◌, ◌/◌, ◌%◌, ◌≤◌, ◌<◌}
-use mathlib.Core.Path.{◌≡◌, refl, ap, ◌∙◌}
+use mathlib.Core.Path.{◌≡◌, refl, sym, ap, ◌∙◌}
 use mathlib.Core.List.{List, [], ◌∷◌}
-use mathlib.Core.Bool.{true, cond}
+use mathlib.Core.Bool.{Bool, true, false, cond}
 use native.Mathlib.Omega.{arith}
 use borrow.Author.Tests.{ne_eqb, le-ltb}
 use lib.Dec.{ltb}
 use lib.ListN.{length}
 use Rattle.octets.specs.Octets.{octet, be16}
 use Rattle.packet.specs.Space.{version, secondary, apid, flags_idle, flagged_idle}
-use Rattle.packet.specs.Encapsulation.{protocol, header_for, encap_header, second, extension, size_for, encap_size, misnames, misnamed, names_empty, empty_named}
+use Rattle.packet.specs.Encapsulation.{limit, protocol, header_for, encap_header, second, extension, size_for, encap_size, misnames, misnamed, names_empty, empty_named}
 use Rattle.reading.specs.Places.{name_from, length_from, fault_at}
 use Rattle.reading.specs.Reading.{fields, reading}
-use Rattle.reading.specs.Causes.{Cause, EncapGood, encapsulation}
+use Rattle.reading.specs.Causes.{Cause, EncapThere, EncapNamed, EncapLimited, EncapGood, encapsulation}
 use Rattle.reading.proofs.Exactly.{refused, accepted}
 use Rattle.reading.proofs.Alike.{name_by_third}
 
@@ -38,6 +38,22 @@ module _ (s : List ℕ) where
 
     pub empty_read : {z : ℕ} → z ≡ encap_size s → names_empty (z - h) p ≡ empty_named s
     empty_read size = rw (size, header, id)
+
+  -- ---- what the tests before have ruled out, where z is the size that was read
+  module _ {h p x f : ℕ} (at : EncapThere s × (h ≡ encap_header s) × (p ≡ protocol s)) (octet1 : x ≡ second s) (field : f ≡ cond (ltb h 8) 0 (be16 s 2)) where
+    pub misnamed_so : {b : Bool} → misnames h p (x % 16) f ≡ b → misnamed s ≡ b
+    misnamed_so e = sym (names_read at.1 at.2 octet1 field) ∙ e
+
+    module _ (e : misnames h p (x % 16) f ≡ false) where
+      pub named_so : EncapNamed s
+      named_so = (at.0, misnamed_so e)
+
+      module _ {z : ℕ} (size : z ≡ encap_size s) (long : h ≤ z) (few : z ≤ limit) where
+        pub limited_so : EncapLimited s
+        limited_so = ((named_so, omega (arith, at.1, size, long)), omega (arith, size, few))
+
+        pub good_so : names_empty (z - h) p ≡ false → EncapGood s
+        good_so some = (limited_so, sym (empty_read at.1 at.2 size) ∙ some)
 
   -- ---- a refusal is told with its place
   pub told_at : {n q : ℕ} → Cause s n → q ≡ fault_at s n → n ∷ q ∷ [] ≡ reading s

@@ -3,6 +3,10 @@ use mathlib.Core.Bool.{true}
 use prog.Linked.{Tree, World, Holds, in_world}
 use prog.LinkedThreads.{HasT}
 use Rattle.reading.proofs.TheLink as Link
+use Rattle.std.proofs.prelude.AnyFrom.from.Symbol as AnyFrom_from
+use Rattle.std.proofs.prelude.ResultFromResidualErrResidual.from_residual.Symbol as ResultFromResidualErrResidual_from_residual
+use Rattle.std.proofs.prelude.ResultTry.branch.Symbol as ResultTry_branch
+use Rattle.std.below.core.proofs.slice.slice+T.is_empty.Symbol as slice_is_empty
 use Rattle.octets.proofs.be16_at.Symbol as octets_be16_at
 use Rattle.octets.proofs.be32_at.Symbol as octets_be32_at
 use Rattle.octets.proofs.octet_at.Symbol as octets_octet_at
@@ -18,12 +22,16 @@ table = Link.table
 -- what it calls of other crates
 abbrev pub Calls : World → Type 0
 Calls W =
-    HasT (in_world W) true octets_be16_at.code ×
+    HasT (in_world W) true AnyFrom_from.code ×
+    (HasT (in_world W) true ResultFromResidualErrResidual_from_residual.code ×
+    (HasT (in_world W) true ResultTry_branch.code ×
+    (HasT (in_world W) true slice_is_empty.code ×
+    (HasT (in_world W) true octets_be16_at.code ×
     (HasT (in_world W) true octets_be32_at.code ×
     (HasT (in_world W) true octets_octet_at.code ×
     (HasT (in_world W) true packet_header_of.code ×
     (HasT (in_world W) true packet_size_of.code ×
-    Unit {0}))))
+    Unit {0}))))))))
 
 pub has_read_packet : (W : World) → Holds W "reading" table → Calls W → HasT (in_world W) true own_read_packet.code
 unfolding table

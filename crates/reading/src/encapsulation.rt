@@ -1,5 +1,6 @@
 // The Encapsulation Packet: a header of 1, 2, 4 or 8 octets, then the content.
-ghost use Rattle.std.specs.Prelude.{◌≡◌, cond, [], ◌∷◌, ltb};
+ghost use Rattle.std.specs.Prelude.{◌≡◌, ◌/◌, true, false, cond, ltb, MatchResult};
+ghost use Rattle.refusal.specs.declared.Refusal.TheVariants.{NamesNothing};
 ghost use Rattle.octets.specs.Octets.{octet, be16};
 ghost use Rattle.packet.specs.Encapsulation.{protocol as protocolIn, header_for, encap_header, second as secondIn, size_for, encap_size, misnames};
 ghost use Rattle.reading.specs.Places.{name_from, length_from};
@@ -7,21 +8,20 @@ ghost use Rattle.reading.specs.Reading.{reading};
 ghost use Rattle.reading.specs.Causes.{Version, EncapThere};
 ghost use Rattle.packet.specs.Told.{told};
 
+use crate::refused;
 use octets::{be16_at, be32_at, octet_at};
-use packet::{EXTENDED, LIMIT, Packet};
+use packet::{EXTENDED, LIMIT, Packet, Unread};
+use refusal::Refusal;
 
 // The octets of the header, from the length of length.
 pub(crate) fn header_for(l: u8) -> u8
     ensures { result ≡ header_for l }
 {
-    if l == 0 {
-        1
-    } else if l == 1 {
-        2
-    } else if l == 2 {
-        4
-    } else {
-        8
+    match l {
+        0 => 1,
+        1 => 2,
+        2 => 4,
+        _ => 8,
     }
 }
 
@@ -29,14 +29,11 @@ pub(crate) fn header_for(l: u8) -> u8
 pub(crate) fn size_for(h: u8, s: &[u8]) -> usize
     ensures { result ≡ size_for h s.now }
 {
-    if h == 1 {
-        1
-    } else if h == 2 {
-        octet_at(s, 1) as usize
-    } else if h == 4 {
-        be16_at(s, 2) as usize
-    } else {
-        be32_at(s, 4) as usize
+    match h {
+        1 => 1,
+        2 => octet_at(s, 1) as usize,
+        4 => be16_at(s, 2) as usize,
+        _ => be32_at(s, 4) as usize,
     }
 }
 
@@ -47,35 +44,28 @@ fn second_for(h: u8, s: &[u8]) -> u8
     if h < 4 { 0 } else { octet_at(s, 1) }
 }
 
-// The CCSDS field, which only a header of 8 octets has.
+// The CCSDS field, which only a header of 8 octets has. One function for it and octet 1 would take the limit, the index and the reader: three arguments
+// for a line.
 fn ccsds_for(h: u8, s: &[u8]) -> u16
     ensures { result ≡ cond (ltb h 8) 0 (be16 s.now 2) }
 {
     if h < 8 { 0 } else { be16_at(s, 2) }
 }
 
-// Whether the fields name no protocol, which is refusal 7.
-fn is_misnamed(header: u8, protocol: u8, extension: u8, ccsds: u16) -> bool
-    ensures { result ≡ misnames header protocol extension ccsds }
-{
-    ((protocol == EXTENDED) & (header < 4))
-        | ((extension != 0) & (protocol != EXTENDED))
-        | (ccsds != 0)
-}
-
-// Where the fields that name no protocol are wrong first; third is octet 2, where the header has a CCSDS field.
-fn name_from(header: u8, protocol: u8, extension: u8, third: u8) -> u32
-    ensures { result ≡ name_from header protocol extension third }
+// Refuses fields that name no protocol, at the first of them that is wrong; the octet of the CCSDS field at fault is the first that is not 0.
+fn check_name(header: u8, protocol: u8, extension: u8, ccsds: u16) -> Result<(), Unread>
+    ensures { MatchResult result (λ _. misnames header protocol extension ccsds ≡ false) (λ u. (misnames header protocol extension ccsds ≡ true) × (u ≡ record { refusal = NamesNothing; place = name_from header protocol extension (ccsds / 256) })) }
 {
     if (protocol == EXTENDED) & (header < 4) {
-        0
-    } else if (extension != 0) & (protocol != EXTENDED) {
-        1
-    } else if third == 0 {
-        3
-    } else {
-        2
+        return refused(Refusal::NamesNothing, 0);
     }
+    if (extension != 0) & (protocol != EXTENDED) {
+        return refused(Refusal::NamesNothing, 1);
+    }
+    if ccsds == 0 {
+        return Ok(());
+    }
+    refused(Refusal::NamesNothing, if ccsds < 256 { 3 } else { 2 })
 }
 
 // Where the length field begins.
@@ -85,58 +75,45 @@ fn length_from(header: u8) -> u32
     (header / 2) as u32
 }
 
-// A refusal with its place.
-fn refused(number: u8, place: u32) -> Packet
-    ensures { told result ≡ (number ∷ place ∷ []) }
-{
-    Packet::Refused { place, number }
-}
-
-// What a packet tells whose header is there; its fields are given, so that they are read once. Each refusal builds the enum and works its place out
-// where it is found, so that what is not refused pays nothing for it.
-fn verdict(s: &[u8], header: u8, protocol: u8, second: u8, size: usize) -> Packet
+// What a packet tells whose header is there; its fields are given, so that they are read once. Each refusal works its place out where it is
+// found, so that what is not refused pays nothing for it.
+fn verdict(s: &[u8], header: u8, protocol: u8, second: u8, size: usize) -> Result<Packet, Unread>
     requires encap_there { EncapThere s.now × (header ≡ encap_header s.now) × (protocol ≡ protocolIn s.now) }
     requires second_value { (second ≡ secondIn s.now) × (size ≡ encap_size s.now) }
     ensures { told result ≡ reading s.now }
 {
-    let ccsds = ccsds_for(header, s);
-    if is_misnamed(header, protocol, second % 16, ccsds) {
-        return refused(
-            7,
-            name_from(header, protocol, second % 16, (ccsds / 256) as u8),
-        );
-    }
+    check_name(header, protocol, second % 16, ccsds_for(header, s))?;
     if size < header as usize {
-        return refused(4, length_from(header));
+        return refused(Refusal::UnderHeader, length_from(header));
     }
     if LIMIT < size {
-        return refused(5, length_from(header));
+        return refused(Refusal::OverLimit, length_from(header));
     }
     let octets = size - header as usize;
     if (octets == 0) & (protocol != 0) {
-        return refused(6, 0);
+        return refused(Refusal::NoContent, 0);
     }
     if s.len() < size {
-        return refused(1, s.len() as u32);
+        return refused(Refusal::CutShort, s.len() as u32);
     }
-    Packet::Encapsulation {
+    Ok(Packet::Encapsulation {
         protocol,
         user: second / 16 % 16,
         extension: second % 16,
         header,
         octets: octets as u32,
-    }
+    })
 }
 
 // What the octets of a packet of version 111 tell.
-pub(crate) fn read(s: &[u8]) -> Packet
+pub(crate) fn read(s: &[u8]) -> Result<Packet, Unread>
     requires { Version 7 s.now }
     ensures { told result ≡ reading s.now }
 {
     let first = octet_at(s, 0);
     let header = header_for(first % 4);
     if s.len() < header as usize {
-        return refused(1, s.len() as u32);
+        return refused(Refusal::CutShort, s.len() as u32);
     }
     let second = second_for(header, s);
     let size = size_for(header, s);

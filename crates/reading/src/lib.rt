@@ -4,33 +4,32 @@
 mod encapsulation;
 mod space;
 
-ghost use Rattle.std.specs.Prelude.{◌≡◌, ◌+◌};
+ghost use Rattle.std.specs.Prelude.{◌≡◌, ◌+◌, Err};
 ghost use Rattle.packet.specs.Told.{told};
 ghost use Rattle.reading.specs.Reading.{reading, announced, content, content_at};
 
 use octets::{be16_at, octet_at};
-use packet::{Packet, SPACE_HEADER, header_of, size_of};
+use packet::{Packet, SPACE_HEADER, Unread, header_of, size_of};
+use refusal::Refusal;
+
+// A refusal with its place.
+pub(crate) fn refused<T>(refusal: Refusal, place: u32) -> Result<T, Unread>
+    ensures { result ≡ Err (record { refusal = refusal; place = place }) }
+{
+    Err(Unread { refusal, place })
+}
 
 // The fields of the packet at the front of s, or the refusal.
-pub fn read_packet(s: &[u8]) -> Packet
+pub fn read_packet(s: &[u8]) -> Result<Packet, Unread>
     ensures { told result ≡ reading s.now }
 {
-    if s.len() == 0 {
-        return Packet::Refused {
-            number: 1,
-            place: 0,
-        };
+    if s.is_empty() {
+        return refused(Refusal::CutShort, 0);
     }
-    let version = octet_at(s, 0) / 32 % 8;
-    if version == 0 {
-        return space::read(s);
-    }
-    if version == 7 {
-        return encapsulation::read(s);
-    }
-    Packet::Refused {
-        number: 2,
-        place: 0,
+    match octet_at(s, 0) / 32 % 8 {
+        0 => space::read(s),
+        7 => encapsulation::read(s),
+        _ => refused(Refusal::BadVersion, 0),
     }
 }
 
@@ -65,8 +64,12 @@ pub fn data_of(s: &[u8]) -> &[u8]
     ensures result_value { result.now ≡ content s.now }
     ensures ref_ptr_value { (result.ref_ptr.0 ≡ s.entry.ref_ptr.0) × (result.ref_ptr.1 ≡ s.entry.ref_ptr.1 + content_at s.now) }
 {
-    let p = read_packet(s);
-    let from = header_of(p);
-    let to = size_of(p);
-    &s[from..to]
+    match read_packet(s) {
+        Ok(p) => {
+            let from = header_of(p);
+            let to = size_of(p);
+            &s[from..to]
+        }
+        Err(_) => &s[..0],
+    }
 }

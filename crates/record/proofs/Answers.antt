@@ -1,24 +1,24 @@
--- What each enum tells fixes the answer, so each promise permits one; and what each case says of the octets.
+-- What each answer tells fixes it, so each promise permits one; and what each case says of the octets.
 use Prim.Native.Nat.{ℕ, ◌%◌, ◌<◌}
 use mathlib.Core.Path.{◌≡◌, refl, sym, ap, ◌∙◌}
 use mathlib.Core.Logic.{◌⊎◌, inl, inr, ⊎_elim}
 use mathlib.Core.List.{List, [], ◌∷◌}
 use mathlib.Core.Bool.{not}
+use Rattle.std.specs.Prelude.{Result, Ok, Err}
 use native.Mathlib.Omega.{arith}
 use lib.Dec.{eqb, ltb}
 use lib.ListN.{length}
 use Rattle.octets.specs.Output.{leading}
 use Rattle.octets.proofs.Order.{either, told_values, told_number}
+use Rattle.refusal.specs.Refusal.{number}
+use Rattle.refusal.specs.declared.Refusal.{Refusal}
+use Rattle.refusal.proofs.Named.{alike, some as above_0}
 use Rattle.record.specs.Record.{record_size, record_in, fields}
 use Rattle.record.specs.Reading.{record_tests, record_refusal, record_reading, records_in, impossible_in, file_refusal, file_reading}
 use Rattle.record.specs.Told.{told_read, told_written, told_file}
 use Rattle.record.specs.declared.Record.{Record}
-use Rattle.record.specs.declared.RecordRead.{RecordRead}
-use Rattle.record.specs.declared.RecordRead.TheVariants as read
-use Rattle.record.specs.declared.RecordWritten.{RecordWritten}
-use Rattle.record.specs.declared.RecordWritten.TheVariants as written
-use Rattle.record.specs.declared.RecordFile.{RecordFile}
-use Rattle.record.specs.declared.RecordFile.TheVariants as file
+use Rattle.record.specs.declared.FileFault.{FileFault}
+use Rattle.record.specs.declared.FileFault.TheVariants as fault
 
 fields_fix : (r q : Record) → fields r ≡ fields q → r ≡ q
 fields_fix r q e =
@@ -30,37 +30,37 @@ fields_fix r q e =
     let g : r.broken ≡ q.broken = cc in
     λ i. record { station = a i; apid = b i; units = c i; packets = d i; missing = f i; broken = g i }
 
-read_fixes : (a b : RecordRead) → told_read a ≡ told_read b → a ≡ b
-read_fixes (read.Fields r) (read.Fields q) e = let f = fields_fix r q cc in cc
-read_fixes (read.Refused k) (read.Refused m) e = cc
-read_fixes (read.Fields r) (read.Refused m) e = let z : ◌≡◌ {A = ℕ} 0 1 = cc in absurd (omega arith)
-read_fixes (read.Refused k) (read.Fields q) e = let z : ◌≡◌ {A = ℕ} 0 1 = cc in absurd (omega arith)
+read_fixes : (a b : Result Record Refusal) → told_read a ≡ told_read b → a ≡ b
+read_fixes (Ok r) (Ok q) e = let f = fields_fix r q cc in cc
+read_fixes (Err k) (Err m) e = let f = alike k m cc in cc
+read_fixes (Ok r) (Err m) e = let z : number m ≡ 0 = cc in absurd (omega (arith, above_0 m))
+read_fixes (Err k) (Ok q) e = let z : number k ≡ 0 = cc in absurd (omega (arith, above_0 k))
 
-written_fixes : (a b : RecordWritten) → told_written a ≡ told_written b → a ≡ b
-written_fixes (written.Octets n) (written.Octets m) e = cc
-written_fixes (written.Refused k) (written.Refused m) e = cc
-written_fixes (written.Octets n) (written.Refused m) e = let z : ◌≡◌ {A = ℕ} 0 1 = cc in absurd (omega arith)
-written_fixes (written.Refused k) (written.Octets m) e = let z : ◌≡◌ {A = ℕ} 0 1 = cc in absurd (omega arith)
+written_fixes : (a b : Result ℕ Refusal) → told_written a ≡ told_written b → a ≡ b
+written_fixes (Ok n) (Ok m) e = cc
+written_fixes (Err k) (Err m) e = let f = alike k m cc in cc
+written_fixes (Ok n) (Err m) e = let z : number m ≡ 0 = cc in absurd (omega (arith, above_0 m))
+written_fixes (Err k) (Ok m) e = let z : number k ≡ 0 = cc in absurd (omega (arith, above_0 k))
 
-file_fixes : (a b : RecordFile) → told_file a ≡ told_file b → a ≡ b
-file_fixes (file.Records n) (file.Records m) e = cc
-file_fixes (file.Impossible n) (file.Impossible m) e = cc
-file_fixes file.Ragged file.Ragged e = refl
-file_fixes (file.Records n) (file.Impossible m) e = let z : ◌≡◌ {A = ℕ} 0 25 = cc in absurd (omega arith)
-file_fixes (file.Impossible m) (file.Records n) e = let z : ◌≡◌ {A = ℕ} 0 25 = cc in absurd (omega arith)
-file_fixes (file.Records n) file.Ragged e = let z : ◌≡◌ {A = ℕ} 0 26 = cc in absurd (omega arith)
-file_fixes file.Ragged (file.Records n) e = let z : ◌≡◌ {A = ℕ} 0 26 = cc in absurd (omega arith)
-file_fixes (file.Impossible n) file.Ragged e = let z : ◌≡◌ {A = ℕ} 25 26 = cc in absurd (omega arith)
-file_fixes file.Ragged (file.Impossible n) e = let z : ◌≡◌ {A = ℕ} 25 26 = cc in absurd (omega arith)
+file_fixes : (a b : Result ℕ FileFault) → told_file a ≡ told_file b → a ≡ b
+file_fixes (Ok n) (Ok m) e = cc
+file_fixes (Err (fault.Impossible n)) (Err (fault.Impossible m)) e = cc
+file_fixes (Err fault.Ragged) (Err fault.Ragged) e = refl
+file_fixes (Ok n) (Err (fault.Impossible m)) e = let z : ◌≡◌ {A = ℕ} 0 25 = cc in absurd (omega arith)
+file_fixes (Err (fault.Impossible m)) (Ok n) e = let z : ◌≡◌ {A = ℕ} 0 25 = cc in absurd (omega arith)
+file_fixes (Ok n) (Err fault.Ragged) e = let z : ◌≡◌ {A = ℕ} 0 26 = cc in absurd (omega arith)
+file_fixes (Err fault.Ragged) (Ok n) e = let z : ◌≡◌ {A = ℕ} 0 26 = cc in absurd (omega arith)
+file_fixes (Err (fault.Impossible n)) (Err fault.Ragged) e = let z : ◌≡◌ {A = ℕ} 25 26 = cc in absurd (omega arith)
+file_fixes (Err fault.Ragged) (Err (fault.Impossible n)) e = let z : ◌≡◌ {A = ℕ} 25 26 = cc in absurd (omega arith)
 
 module _ (told : List ℕ) where
-  pub one_read : (a b : RecordRead) → told_read a ≡ told → told_read b ≡ told → a ≡ b
+  pub one_read : (a b : Result Record Refusal) → told_read a ≡ told → told_read b ≡ told → a ≡ b
   one_read a b e f = read_fixes a b (e ∙ sym f)
 
-  pub one_written : (a b : RecordWritten) → told_written a ≡ told → told_written b ≡ told → a ≡ b
+  pub one_written : (a b : Result ℕ Refusal) → told_written a ≡ told → told_written b ≡ told → a ≡ b
   one_written a b e f = written_fixes a b (e ∙ sym f)
 
-  pub one_file : (a b : RecordFile) → told_file a ≡ told → told_file b ≡ told → a ≡ b
+  pub one_file : (a b : Result ℕ FileFault) → told_file a ≡ told → told_file b ≡ told → a ≡ b
   one_file a b e f = file_fixes a b (e ∙ sym f)
 
 -- ---- what each case says of the octets

@@ -1,21 +1,17 @@
 -- A record in a file is what the reader of one record is given: octets after the first 20 are not looked at.
 use Prim.Native.Nat.{ℕ, ◌*◌, ◌≤◌, ◌<◌}
-use mathlib.Core.Path.{◌≡◌, ap, ◌∙◌}
+use mathlib.Core.Path.{◌≡◌, ◌∙◌}
 use mathlib.Core.List.{List}
 use mathlib.Core.Bool.{false}
 use native.Mathlib.Omega.{arith}
 use borrow.Author.Tests.{eq-eqb}
 use lib.ListN.{length, take, length-drop}
-use lib.Seq.{get_or-take, length-take-le}
+use lib.Seq.{length-take-le}
 use Rattle.octets.proofs.Order.{either}
-use Rattle.record.specs.Record.{record_size, possible}
+use Rattle.record.specs.Record.{record_size}
 use Rattle.record.specs.Reading.{possible_at, record_refusal, record_reading, records_in}
-use Rattle.record.proofs.Front.{same_record}
+use Rattle.record.proofs.Chunks.{same_possible}
 use Rattle.record.proofs.First.{record_from}
-
-same_possible : (t : List ℕ) → possible_at (take record_size t) ≡ possible_at t
-unfolding possible_at
-same_possible t = ap possible (same_record (take record_size t) t (λ k h. get_or-take record_size t k 0 h))
 
 -- the law: a record of a whole file is refused 25 by the reader of one record exactly where the file's reader takes it for impossible
 pub as_one : (s : List ℕ) (j : ℕ) → j < records_in s

@@ -1,10 +1,9 @@
 pub mod Reading
 pub mod Exactly
-pub mod Before
+pub mod Chunks
 pub mod First
 pub mod Front
 pub mod InFile
 pub mod Answers
 pub mod RoundTrip
-pub mod Tested
 pub mod Linked

@@ -1,25 +1,29 @@
--- What the enums of the crate's code tell, as the paper's number and values.
-use Rattle.std.specs.Prelude.{ℕ, List, [], ◌∷◌}
+-- What the answers of the crate's code tell, as the paper's number and values.
+use Rattle.std.specs.Prelude.{ℕ, List, [], ◌∷◌, Result, Ok, Err}
+use Rattle.refusal.specs.Refusal.{number}
+use Rattle.refusal.specs.declared.Refusal.{Refusal}
 use Rattle.record.specs.Record.{fields}
-use Rattle.record.specs.declared.RecordRead.{RecordRead}
-use Rattle.record.specs.declared.RecordRead.TheVariants as read
-use Rattle.record.specs.declared.RecordWritten.{RecordWritten}
-use Rattle.record.specs.declared.RecordWritten.TheVariants as written
-use Rattle.record.specs.declared.RecordFile.{RecordFile}
-use Rattle.record.specs.declared.RecordFile.TheVariants as file
+use Rattle.record.specs.declared.Record.{Record}
+use Rattle.record.specs.declared.FileFault.{FileFault}
+use Rattle.record.specs.declared.FileFault.TheVariants as fault
 
 -- one record read: no refusal (0) and the fields; or the number of the refusal
-abbrev pub told_read : RecordRead → List ℕ
-told_read (read.Fields r) = 0 ∷ fields r
-told_read (read.Refused number) = number ∷ []
+abbrev pub told_read : Result Record Refusal → List ℕ
+told_read (Ok r) = 0 ∷ fields r
+told_read (Err refusal) = number refusal ∷ []
 
 -- one record written: no refusal (0) and the octets written; or the number of the refusal
-abbrev pub told_written : RecordWritten → List ℕ
-told_written (written.Octets n) = 0 ∷ n ∷ []
-told_written (written.Refused number) = number ∷ []
+abbrev pub told_written : Result ℕ Refusal → List ℕ
+told_written (Ok n) = 0 ∷ n ∷ []
+told_written (Err refusal) = number refusal ∷ []
+
+-- the number of a file's fault
+abbrev pub fault_number : FileFault → ℕ
+fault_number (fault.Impossible index) = 25
+fault_number fault.Ragged = 26
 
 -- a file read: no refusal (0) and the number of records; or 25 and the index; or 26
-abbrev pub told_file : RecordFile → List ℕ
-told_file (file.Records n) = 0 ∷ n ∷ []
-told_file (file.Impossible index) = 25 ∷ index ∷ []
-told_file file.Ragged = 26 ∷ []
+abbrev pub told_file : Result ℕ FileFault → List ℕ
+told_file (Ok n) = 0 ∷ n ∷ []
+told_file (Err (fault.Impossible index)) = 25 ∷ index ∷ []
+told_file (Err fault.Ragged) = 26 ∷ []

@@ -1,6 +1,5 @@
 // The fields of a record in its octets, and the bound on one of them.
-ghost use Rattle.std.specs.Prelude.{◌≡◌, ◌+◌, ◌≤◌, ◌<◌, leb, length};
-ghost use Rattle.octets.specs.Octets.{octet, be16, be32};
+ghost use Rattle.std.specs.Prelude.{◌≡◌, ◌≤◌, leb, length};
 ghost use Rattle.octets.specs.Output.{put as puts};
 ghost use Rattle.record.specs.Record.{record_size, record_in, record_octets, most_missing};
 
@@ -26,42 +25,17 @@ pub(crate) fn is_missing_possible(missing: u32, packets: u32) -> bool
     missing as u64 <= MOST_BETWEEN * (packets as u64 - 1)
 }
 
-// The octet at index k, which lies within: the length was tested once for all fields, where `octets::octet_at` would test it for each octet.
-fn octet_within(s: &[u8], k: usize) -> u8
-    requires { k < length s.now }
-    ensures { result ≡ octet s.now k }
-{
-    s[k]
-}
-
-// The number in the two octets from index k on.
-fn be16_within(s: &[u8], k: usize) -> u16
-    requires { k + 2 ≤ length s.now }
-    ensures { result ≡ be16 s.now k }
-{
-    octet_within(s, k) as u16 * 256 + octet_within(s, k + 1) as u16
-}
-
-// The number in the four octets from index k on.
-fn be32_within(s: &[u8], k: usize) -> u32
-    requires { k + 4 ≤ length s.now }
-    ensures { result ≡ be32 s.now k }
-{
-    be16_within(s, k) as u32 * 65536 + be16_within(s, k + 2) as u32
-}
-
-// The record at the front of s.
-pub(crate) fn record_in(s: &[u8]) -> Record
-    requires { record_size ≤ length s.now }
+// The record that 20 octets are.
+pub(crate) fn record_in(s: &[u8; SIZE]) -> Record
     ensures { result ≡ record_in s.now }
 {
     Record {
-        station: be16_within(s, 0),
-        apid: be16_within(s, 2),
-        units: be32_within(s, 4),
-        packets: be32_within(s, 8),
-        missing: be32_within(s, 12),
-        broken: be32_within(s, 16),
+        station: u16::from_be_bytes([s[0], s[1]]),
+        apid: u16::from_be_bytes([s[2], s[3]]),
+        units: u32::from_be_bytes([s[4], s[5], s[6], s[7]]),
+        packets: u32::from_be_bytes([s[8], s[9], s[10], s[11]]),
+        missing: u32::from_be_bytes([s[12], s[13], s[14], s[15]]),
+        broken: u32::from_be_bytes([s[16], s[17], s[18], s[19]]),
     }
 }
 

@@ -3,15 +3,16 @@
 
 mod fields;
 
-ghost use Rattle.std.specs.Prelude.{◌≡◌, ◌*◌, ◌≤◌, length};
-ghost use Rattle.record.specs.Record.{record_size, record_in, possible};
-ghost use Rattle.record.specs.Reading.{record_reading, possible_before, file_reading};
+ghost use Rattle.std.specs.Prelude.{◌≡◌, length};
+ghost use Rattle.record.specs.Record.{record_in, possible};
+ghost use Rattle.record.specs.Reading.{record_reading, file_reading};
 ghost use Rattle.record.specs.Writing.{record_told, record_after};
-ghost use Rattle.record.specs.Told.{told_read, told_written, told_file};
+ghost use Rattle.record.specs.Told.{told_read, told_written, fault_number, told_file};
+ghost use Rattle.refusal.specs.Refusal.{number};
 
 use fields::{SIZE, is_missing_possible, put_fields, record_in};
-use numbers::smaller;
 use putting::put_octets;
+use refusal::Refusal;
 
 // The largest APID, and the most packets, that a record can have.
 pub const MOST_APID: u16 = 2046;
@@ -19,7 +20,7 @@ pub const MOST_APID: u16 = 2046;
 pub const MOST_PACKETS: u32 = 262144;
 
 // What a station is credited with for one lane.
-#[derive(Clone, Copy)]
+#[derive(Clone, Copy, Debug, PartialEq, Eq)]
 pub struct Record {
     pub station: u16,
     pub apid: u16,
@@ -29,30 +30,26 @@ pub struct Record {
     pub broken: u32,
 }
 
-// What reading one record gives: its fields, or the refusal 25 or 26.
-#[derive(Clone, Copy)]
-pub enum RecordRead {
-    Fields(Record),
-    Refused(u8),
-}
-
-// What writing one record gives: the octets written, or the refusal 9 or 25.
-#[derive(Clone, Copy)]
-pub enum RecordWritten {
-    Octets(usize),
-    Refused(u8),
-}
-
-// What reading a file gives: its number of records; or the index of the first impossible one, which is refusal 25; or that it is not a
-// multiple of 20 octets, which is 26.
-#[derive(Clone, Copy)]
-pub enum RecordFile {
-    Records(usize),
+// Why a file of records is refused: the index of its first impossible record; or that it is not a multiple of 20 octets.
+#[derive(Clone, Copy, Debug, PartialEq, Eq)]
+pub enum FileFault {
     Impossible(usize),
     Ragged,
 }
 
+impl From<FileFault> for Refusal {
+    ghost from_gives = { λ fault r. number r ≡ fault_number fault };
+
+    fn from(fault: FileFault) -> Refusal {
+        match fault {
+            FileFault::Impossible(_) => Refusal::NotPossible,
+            FileFault::Ragged => Refusal::NotRecords,
+        }
+    }
+}
+
 // Whether a record is possible. The sum is made in 64 bits, where it can't wrap; each test is left out where an earlier one fails.
+#[tactic(auto, unfolding(crate::specs::Record::possible))]
 pub fn is_possible(r: Record) -> bool
     ensures { result ≡ possible r }
 {
@@ -73,71 +70,57 @@ pub fn front_record(s: &[u8]) -> Record
     ensures { result ≡ record_in s.now }
 {
     let mut whole = [0u8; SIZE];
-    let n = smaller(s.len(), SIZE);
+    let n = s.len().min(SIZE);
     put_octets(&mut whole, 0, &s[..n]);
     record_in(&whole)
 }
 
-// The fields of the record that s is, or the refusal.
-pub fn read_record(s: &[u8]) -> RecordRead
+// The record that s is; or the refusal 26, for not 20 octets, or 25, for an impossible record.
+#[tactic(auto, unfolding(crate::specs::Reading::record_reading, crate::specs::Reading::possible_at))]
+pub fn read_record(s: &[u8]) -> Result<Record, Refusal>
     ensures { told_read result ≡ record_reading s.now }
 {
-    if s.len() != SIZE {
-        return RecordRead::Refused(26);
-    }
-    let r = record_in(s);
+    let Ok(octets) = <&[u8; SIZE]>::try_from(s) else {
+        return Err(Refusal::NotRecords);
+    };
+    let r = record_in(octets);
     if is_possible(r) {
-        RecordRead::Fields(r)
+        Ok(r)
     } else {
-        RecordRead::Refused(25)
+        Err(Refusal::NotPossible)
     }
 }
 
-// Writes r at the front of out, if there is room and it is possible.
-pub fn write_record(r: Record, out: &mut [u8]) -> RecordWritten
+// Writes r at the front of out, and tells the octets written; or the refusal 9, for no room, or 25, for an impossible record.
+#[tactic(auto, unfolding(crate::specs::Writing::record_told, octets::specs::Output::output_after))]
+pub fn write_record(r: Record, out: &mut [u8]) -> Result<usize, Refusal>
     ensures result_value { told_written result ≡ record_told r (length out.old) }
     ensures out_after { out.new ≡ record_after r out.old }
 {
     if out.len() < SIZE {
-        return RecordWritten::Refused(9);
+        return Err(Refusal::NoRoom);
     }
     if is_possible(r) {
         put_fields(out, r);
-        RecordWritten::Octets(SIZE)
+        Ok(SIZE)
     } else {
-        RecordWritten::Refused(25)
+        Err(Refusal::NotPossible)
     }
 }
 
-// The number of records in s, or the refusal.
-pub fn read_record_file(s: &[u8]) -> RecordFile
+// The number of records in s, all of them possible; or why the file is refused.
+pub fn read_record_file(s: &[u8]) -> Result<usize, FileFault>
     ensures { told_file result ≡ file_reading s.now }
 {
-    if s.len() % SIZE != 0 {
-        return RecordFile::Ragged;
+    let (records, rest) = s.as_chunks();
+    if !rest.is_empty() {
+        return Err(FileFault::Ragged);
     }
-    let records = s.len() / SIZE;
-    let index = possible_before(s, records);
-    if index < records {
-        RecordFile::Impossible(index)
-    } else {
-        RecordFile::Records(records)
+    match records
+        .iter()
+        .position(|octets| !is_possible(record_in(octets)))
+    {
+        Some(index) => Err(FileFault::Impossible(index)),
+        None => Ok(records.len()),
     }
-}
-
-// How many of the first n records come before one that is not possible.
-fn possible_before(s: &[u8], n: usize) -> usize
-    requires { n * record_size ≤ length s.now }
-    ensures { result ≡ possible_before n s.now }
-{
-    let mut i = 0;
-    while i < n {
-        let at = i * SIZE;
-        if is_possible(record_in(&s[at..])) {
-            i += 1;
-        } else {
-            break;
-        }
-    }
-    i
 }

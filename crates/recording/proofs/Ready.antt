@@ -9,12 +9,12 @@ use borrow.Author.Tests.{eq-eqb, ne_eqb, eqb-true, eqb-false}
 use lib.Dec.{eqb}
 use lib.ListN.{length, take}
 use lib.Seq.{take-append_seam}
+use Rattle.std.proofs.lemmas.List.{nil_from_length}
 use Rattle.octets.specs.Output.{put}
 use Rattle.octets.proofs.Order.{either}
 use Rattle.frames.specs.declared.Frames.{Frames}
 use Rattle.frames.specs.Frames.{frame_counts, repeats}
 use Rattle.recording.specs.Sent.{most_lost}
-use Rattle.recording.proofs.Stands.{none_there}
 use Rattle.recording.proofs.Taking.{Holds, nothing, something}
 
 -- before the frame of this count, `lost` having been lost in a row directly before it; `k` is what is kept of the packet that is being sent
@@ -34,7 +34,7 @@ module _ {state : Frames} {buffer : List ℕ} {count lost : ℕ} {k : List ℕ} 
   pub holds : Ready state buffer count lost k → Holds state count (take state.piece buffer) k
   holds (waits s p z) = nothing (simp (eq-eqb state.piece 0 p)) z
   holds (follows s c l e p t) =
-      either (eqb state.piece 0) (λ z. nothing (simp z) (none_there k (omega (arith, eqb-true state.piece 0 z))))
+      either (eqb state.piece 0) (λ z. nothing (simp z) (nil_from_length k (omega (arith, eqb-true state.piece 0 z))))
       (λ z. something (simp (z, s, eq-eqb count ((state.count + 1) % frame_counts) e)) t (omega (arith, eqb-false state.piece 0 z)))
   holds (misses s c l m e z) =
       nothing (simp (s, ne_eqb count ((state.count + 1) % frame_counts) (λ i. omega arith)) (and-false (not (eqb state.piece 0)))) z

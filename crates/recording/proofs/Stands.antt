@@ -9,6 +9,7 @@ use borrow.Author.Tests.{eq-eqb, ne_eqb, eqb-true, eqb-false, lt-ltb, le-ltb, le
 use lib.Dec.{eqb, leb}
 use lib.ListN.{length, take, drop, length-append, length-drop, take-append-drop}
 use lib.Seq.{take-append_seam, drop-append_seam, take-append-le, drop-append-le}
+use Rattle.std.proofs.lemmas.List.{nil_from_length}
 use Rattle.octets.proofs.Order.{either, both}
 use Rattle.reading.specs.Reading.{header, refusal}
 use Rattle.reading.specs.Causes.{no_octets}
@@ -16,10 +17,6 @@ use Rattle.reading.proofs.Exactly.{gives}
 use Rattle.pieces.specs.Pieces.{one_packet, unfinished}
 use Rattle.recording.specs.Sent.{all, to_next}
 use Rattle.recording.proofs.Beginnings.{is_packet, cut_short, beginning}
-
-pub none_there : {A : Type 0} (l : List A) → length l ≡ 0 → l ≡ []
-none_there [] e = refl
-none_there (a ∷ l) e = absurd (omega arith)
 
 -- `rest` are the packets that are not all sent; of the first of them the octets `sent` are
 pub data Stands (rest : List (List ℕ)) (sent : List ℕ) : Type 0 where
@@ -110,7 +107,7 @@ module _ (p f later : List ℕ) (rest : List (List ℕ)) (e : f ++ later ≡ p +
 
     stands_in : Stands (p ∷ rest) f
     stands_in =
-        either (eqb (length f) 0) (λ z. going_at_start (none_there f (eqb-true _ _ z)))
+        either (eqb (length f) 0) (λ z. going_at_start (nil_from_length f (eqb-true _ _ z)))
         (λ z. inside (drop (length f) p) rest (ap (λ x. x ∷ rest) beginning_of) (omega (arith, eqb-false (length f) 0 z)) (simp length-drop (omega arith)))
 
     within_packet : Passed (p ∷ rest) f later
@@ -127,7 +124,7 @@ passed [] f later e =
       packets = refl;
       fills = refl;
       later_on = e;
-      stands = going_at_start (none_there f (omega (arith, ap length e, length-append f later)));
+      stands = going_at_start (nil_from_length f (omega (arith, ap length e, length-append f later)));
     }
 passed (p ∷ rest) f later e =
     either (leb (length p) (length f))

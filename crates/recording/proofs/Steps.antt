@@ -10,6 +10,7 @@ use borrow.Author.Tests.{lt-ltb, le-ltb, ltb-true, ltb-false, leb-true, leb-fals
 use lib.Dec.{eqb, ltb, leb}
 use lib.ListN.{length, take, drop, replicate, length-append, length-replicate, replicate-append-replicate, length-drop, drop_of_length-le}
 use lib.Seq.{take_all, take-append_seam, drop-append_seam}
+use Rattle.std.proofs.lemmas.List.{nil_from_length}
 use Rattle.octets.proofs.Order.{either, both}
 use Rattle.frames.specs.declared.Frames.{Frames}
 use Rattle.pieces.specs.Pieces.{one_packet}
@@ -18,7 +19,7 @@ use Rattle.frames.specs.Frames.{longest_field, idle_only, no_packet, finishes, g
 use Rattle.recording.specs.Sent.{all, to_next}
 use Rattle.recording.specs.Received.{wholly}
 use Rattle.recording.proofs.Beginnings.{IsPacket, is_packet, packet_ends, unread, cut_short, beginning}
-use Rattle.recording.proofs.Stands.{none_there, Stands, going_at_start, inside, stands_short, stands_unfinished, stands_between}
+use Rattle.recording.proofs.Stands.{Stands, going_at_start, inside, stands_short, stands_unfinished, stands_between}
 use Rattle.recording.proofs.Stands.{from_start, from_inside, from_past, Passed, passed, has_packet, then_later, beginning_of, rest_of}
 use Rattle.recording.proofs.Whole.{all_came, came_append, came_all, came_none, came_one, wholly_first, wholly_done}
 use Rattle.recording.proofs.Taking.{in_step, Holds, nothing, something, Took, gives_up_lem, by_joined, took, grew}
@@ -163,7 +164,7 @@ module _ (r : Bool) (sent b : List ℕ) (more : List (List ℕ)) (came : List Bo
         either (ltb (length b) (length (b ++ f)))
         (λ t. let s = ltb-true (length b) (length (b ++ f)) t in
         simp t (take-append_seam b f, drop-append_seam b f, λ i. omega arith))
-        (λ t. let z : f ≡ [] = none_there f (omega (arith, ltb-false (length b) (length (b ++ f)) t)) in
+        (λ t. let z : f ≡ [] = nil_from_length f (omega (arith, ltb-false (length b) (length (b ++ f)) t)) in
         simp t (take_all no_packet (b ++ f) (omega arith) ∙ rw (z, append-nil), drop_of_length-le (b ++ f) {i = no_packet} (omega arith) ∙ sym z, λ i. omega arith))
 
     abbrev ended : List (List ℕ)
@@ -290,7 +291,7 @@ module _ (r : Bool) (field : List ℕ) (rest : List (List ℕ)) (sent : List ℕ
   by_place : Stands rest sent → sent ++ (field ++ later) ≡ flatten rest → Step false r field rest sent came later
   unfolding flatten
   by_place (going_at_start e) fills =
-      let c = none_there came (omega (arith, ap length e)) in
+      let c = nil_from_length came (omega (arith, ap length e)) in
       rw (e, c) (start_step r field rest later a (passed rest field later (rw e at fills)) some)
   by_place (inside b more e begun cut) fills =
       in_packet b more e begun cut (append_cancel_left sent (field ++ later) (b ++ flatten more) (fills ∙ ap flatten e ∙ append_assoc sent b (flatten more)))
@@ -299,6 +300,6 @@ module _ (r : Bool) (field : List ℕ) (rest : List (List ℕ)) (sent : List ℕ
       → Step idle r field rest sent came later
   step true s between fills =
       let z = stands_between s (between refl) in
-      let c = none_there came (omega (arith, ap length z)) in
+      let c = nil_from_length came (omega (arith, ap length z)) in
       rw (z, c) (idle_step r field rest later a size (rw z at fills))
   step false s between fills = by_place s fills

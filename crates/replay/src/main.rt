@@ -2,47 +2,12 @@
 // writing fails it says so on standard error, and ends with status 1.
 #![tactic(auto)]
 
-ghost use Rattle.std.specs.Prelude.{◌≤◌, length, IfOk};
+ghost use Rattle.std.specs.Prelude.{◌≤◌, length};
 ghost use Rattle.telling.specs.Lines.{line_room};
 
+use ending::{Ending, Failure};
 use std::io;
 use std::io::{Read, Write};
-use std::process::ExitCode;
-
-// Room for one octet more than a run file has, so that a longer one shows.
-fn run_room() -> [u8; 1048577] {
-    [0; 1048577]
-}
-
-// The pool: 64 blocks of 256 octets.
-fn pool_room() -> [u8; 16384] {
-    [0; 16384]
-}
-
-// The most output space that a call gets.
-fn output_room() -> [u8; 131072] {
-    [0; 131072]
-}
-
-// A chunk of the text at a time.
-fn text_room() -> [u8; 65536] {
-    [0; 65536]
-}
-
-// Reads until the room is full or the input ends, and answers how many octets came.
-fn read_full<R: Read>(input: &mut R, room: &mut [u8]) -> io::Result<usize>
-    ensures { IfOk result (λ n. n ≤ length room.new) }
-{
-    let mut done = 0;
-    while done < room.len() {
-        let count = input.read(&mut room[done..])?;
-        if count == 0 {
-            break;
-        }
-        done += count;
-    }
-    Ok(done)
-}
 
 // Replays the run file, and writes its text chunk by chunk.
 fn replay<W: Write>(
@@ -57,42 +22,28 @@ fn replay<W: Write>(
     let mut progress = runfile::begin();
     while !progress.done {
         let chunk = replaying::replay_some(run, progress, pool, out, text);
-        let octets = chunk.octets;
-        output.write_all(&text[..octets])?;
+        output.write_all(&text[..chunk.octets])?;
         progress = chunk.progress;
     }
     Ok(())
 }
 
-// The status of a program that wrote where nobody reads on, as its shell tells it.
-const UNREAD: u8 = 141;
-
-// Says what failed and why, and answers the status. Where nobody reads on there is nobody to be told.
-fn fail(rt: &impl Eprint, what: &str, error: io::Error) -> ExitCode {
-    if error.kind() == io::ErrorKind::BrokenPipe {
-        return ExitCode::from(UNREAD);
-    }
-    let _ = eprintln!(rt; "{what}: {error}");
-    ExitCode::FAILURE
+// Replays the run file that the input gives. Input and output are two parameters, as in list.
+fn run<R: Read, W: Write>(input: &mut R, output: &mut W) -> Result<(), Failure> {
+    // Room for one octet more than a run file has, so that a longer one shows.
+    let mut run: [u8; 1048577] = Default::default();
+    let room = run.len();
+    let count = io::copy(&mut input.take(room as u64), &mut &mut run[..]).map_err(Failure::Input)?;
+    // The pool: 64 blocks of 256 octets.
+    let mut pool = [0; 16384];
+    // The most output space that a call gets.
+    let mut out: [u8; 131072] = Default::default();
+    // A chunk of the text at a time.
+    let mut text: [u8; 65536] = Default::default();
+    let read = &run[..room.min(count as usize)];
+    replay(read, &mut pool, &mut out, &mut text, output).map_err(Failure::Output)
 }
 
-fn main(rt: HostRuntime) -> ExitCode {
-    let mut run = run_room();
-    let count = match read_full(&mut rt.stdin(), &mut run) {
-        Ok(count) => count,
-        Err(error) => return fail(&rt, "standard input", error),
-    };
-    let mut pool = pool_room();
-    let mut out = output_room();
-    let mut text = text_room();
-    match replay(
-        &run[..count],
-        &mut pool,
-        &mut out,
-        &mut text,
-        &mut rt.stdout(),
-    ) {
-        Ok(()) => ExitCode::SUCCESS,
-        Err(error) => fail(&rt, "standard output", error),
-    }
+fn main(rt: HostRuntime) -> Ending {
+    Ending(run(&mut rt.stdin(), &mut rt.stdout()))
 }

@@ -1,18 +1,19 @@
 -- A call gets the front of the output, which has as many octets as the definition says, and the rest stays.
-use Prim.Native.Nat.{ℕ, ◌+◌, ◌-◌, min}
+use Prim.Native.Nat.{ℕ, ◌+◌, ◌-◌, ◌<◌, min}
 use mathlib.Core.Path.{◌≡◌, refl}
 use mathlib.Core.List.{List, ◌++◌}
 use native.Mathlib.Omega.{arith}
 use lib.ListN.{length, take, drop}
 use lib.Seq.{length-take-le}
+use Rattle.std.specs.Prelude.{Option}
 use Rattle.intake.specs.After.{closing, closing_out, taking, taking_pool, taking_out}
 use Rattle.state.specs.declared.State.{State}
 use Rattle.intake.specs.declared.Changed.{Changed}
 use Rattle.intake.specs.declared.Answered.{Answered}
 use Rattle.runfile.specs.Calls.{call_size, packet_octets}
-use Rattle.replaying.specs.Running.{room_in, taken, closed, ran, call_pool, call_out}
+use Rattle.replaying.specs.Running.{room_in, taken, closed, ran, call_pool, call_out, first_ran, first_pool, first_out}
 use Rattle.runfile.specs.declared.Call.{Call}
-use Rattle.runfile.specs.declared.Call.TheVariants.{Opening, Packet, Closing, Bad}
+use Rattle.runfile.specs.declared.Call.TheVariants.{Opening, Packet, Closing}
 use Rattle.replaying.specs.declared.Ran.{Ran}
 
 -- room is the smaller of the space asked for and the output's octets, as the code has it
@@ -39,23 +40,19 @@ module _ (state : State) (lane space : ℕ) (s pool out : List ℕ) (room : ℕ)
     unfolding ran call_pool call_out
     taking_done f g h = rw (f, g, h, lent, front, e) (refl, (refl, refl))
 
+-- it tells its octets, of which it has some
+pub size_told : (state : State) (s pool out : List ℕ) (call : Call) → (ran state s pool out call).octets ≡ call_size call
+unfolding ran
+size_told state s pool out (Opening lane settings) = refl
+size_told state s pool out (Packet lane space n) = refl
+size_told state s pool out (Closing lane space) = refl
+
+pub some_octets : (call : Call) → 0 < call_size call
+some_octets (Opening lane settings) = omega arith
+some_octets (Packet lane space n) = omega arith
+some_octets (Closing lane space) = omega arith
+
 -- ---- the three promises, of a call that is run
-abbrev pub Done : State → List ℕ → List ℕ → List ℕ → Ran → List ℕ → List ℕ → Call → Type 0
+abbrev pub Done : State → List ℕ → List ℕ → List ℕ → Option Ran → List ℕ → List ℕ → Option Call → Type 0
 Done state s pool out r pool' out' call =
-    (r ≡ ran state s pool out call) × ((pool' ≡ call_pool state s pool out call) × (out' ≡ call_out state s pool out call))
-
--- it tells its octets, and no call changes nothing
-module _ (state : State) (s pool out : List ℕ) where
-  pub size_told : (call : Call) → (ran state s pool out call).octets ≡ call_size call
-  unfolding ran
-  size_told (Opening lane settings) = refl
-  size_told (Packet lane space n) = refl
-  size_told (Closing lane space) = refl
-  size_told Bad = refl
-
-  pub stopped_leaves : (call : Call) → call_size call ≡ 0 → (call_pool state s pool out call ≡ pool) × (call_out state s pool out call ≡ out)
-  unfolding call_pool call_out
-  stopped_leaves (Opening lane settings) e = absurd (omega (arith, e))
-  stopped_leaves (Packet lane space n) e = absurd (omega (arith, e))
-  stopped_leaves (Closing lane space) e = absurd (omega (arith, e))
-  stopped_leaves Bad e = (refl, refl)
+    (r ≡ first_ran state s pool out call) × ((pool' ≡ first_pool state s pool out call) × (out' ≡ first_out state s pool out call))

@@ -1,3 +1,4 @@
+mod One
 mod Front
 pub mod Steps
 mod Chunks

@@ -1,28 +1,28 @@
 -- A run: calls one after another, a line for each, and the end. It can be gone on with in chunks.
-use Rattle.std.specs.Prelude.{ℕ, zero, suc, ◌+◌, ◌-◌, Bool, true, false, cond, ◌||◌, List, [], ◌++◌, eqb, ltb, length, drop, replicate}
+use Rattle.std.specs.Prelude.{ℕ, zero, suc, ◌+◌, ◌-◌, Bool, true, false, cond, List, [], ◌++◌, ltb, length, drop, replicate, Option, Some, None}
 use Rattle.pool.specs.Octets.{pool_octets}
 use Rattle.text.specs.Text.{ascii}
 use Rattle.runfile.specs.Calls.{call_at, call_size}
 use Rattle.runfile.specs.Start.{start}
 use Rattle.runfile.specs.declared.Call.{Call}
-use Rattle.runfile.specs.declared.Progress.{Progress}
+use Rattle.state.specs.declared.State.{State}
+use Rattle.telling.specs.declared.Progress.{Progress}
 use Rattle.replaying.specs.Running.{ran, call_pool, call_out}
 use Rattle.telling.specs.Lines.{last_lines, ready as room_for}
 use Rattle.replaying.specs.Lines.{line_of}
-use Rattle.replaying.specs.declared.Ran.{Ran}
 use Rattle.replaying.specs.declared.Chunk.{Chunk}
 
 -- where a run stands: how far it is, with the intake's state, and then the pool and the output
 pub record Standing : Type 0 where
-  pub progress : Progress
+  pub progress : Progress State
   pub pool : List ℕ
   pub out : List ℕ
 
-abbrev pub standing : Progress → List ℕ → List ℕ → Standing
+abbrev pub standing : Progress State → List ℕ → List ℕ → Standing
 standing p pool out = record { progress = p; pool = pool; out = out }
 
 -- the same progress, with nothing left to tell
-abbrev pub finished : Progress → Progress
+abbrev pub finished : Progress State → Progress State
 finished p = record { at = p.at; calls = p.calls; done = true; state = p.state }
 
 -- a run file has at most 1,048,576 octets
@@ -34,35 +34,31 @@ module _ (s : List ℕ) (w : Standing) where
   abbrev pub ahead : List ℕ
   ahead = drop w.progress.at s
 
-  abbrev pub call : Call
+  abbrev pub call : Option Call
   call = call_at s w.progress.at
 
-  abbrev pub told : Ran
-  told = ran w.progress.state ahead w.pool w.out call
+  -- the run is at its end, where the file is too long or has no whole call here
+  abbrev pub ends : Standing
+  ends = standing (finished w.progress) w.pool w.out
 
-  abbrev pub next_out : List ℕ
-  next_out = call_out w.progress.state ahead w.pool w.out call
+  -- the text of a call that is run, or the last lines; and the standing after it
+  abbrev pub call_text : Option Call → List ℕ
+  call_text (Some c) = line_of w.progress.at (ran w.progress.state ahead w.pool w.out c).outcome (call_out w.progress.state ahead w.pool w.out c)
+  call_text None = last_lines (length s) w.progress.at w.progress.calls w.pool
 
-  abbrev pub next_pool : List ℕ
-  next_pool = call_pool w.progress.state ahead w.pool w.out call
-
-  -- the next step is the last one: the file is too long, or it has no whole call here
-  unfoldable pub stops : Bool
-  stops = ltb longest (length s) || eqb (call_size call) 0
+  abbrev pub after_call : Option Call → Standing
+  after_call (Some c) =
+      standing (record { at = w.progress.at + call_size c; calls = w.progress.calls + 1; done = false; state = (ran w.progress.state ahead w.pool w.out c).state })
+      (call_pool w.progress.state ahead w.pool w.out c) (call_out w.progress.state ahead w.pool w.out c)
+  after_call None = ends
 
   -- the text of the next step
   unfoldable pub next_text : List ℕ
-  next_text =
-      cond (ltb longest (length s)) (ascii "too long\n")
-      (cond (eqb (call_size call) 0) (last_lines (length s) w.progress.at w.progress.calls w.pool)
-      (line_of w.progress.at told.outcome next_out))
+  next_text = cond (ltb longest (length s)) (ascii "too long\n") (call_text call)
 
   -- and the standing after it
   unfoldable pub next : Standing
-  next =
-      cond stops
-      (standing (finished w.progress) w.pool w.out)
-      (standing (record { at = w.progress.at + call_size call; calls = w.progress.calls + 1; done = false; state = told.state }) next_pool next_out)
+  next = cond (ltb longest (length s)) ends (after_call call)
 
 -- ---- the whole run, over at most `most` steps
 unfoldable pub text_over : ℕ → List ℕ → Standing → List ℕ
@@ -84,7 +80,7 @@ unfoldable pub run_text : List ℕ → List ℕ
 run_text s = text_from s (standing start (zeros pool_octets) (zeros 131072))
 
 -- ---- a chunk of it: steps are taken while there is room for any of them in so many octets, from index `to` on
-unfoldable pub ready : ℕ → ℕ → Progress → ℕ → Bool
+unfoldable pub ready : ℕ → ℕ → Progress State → ℕ → Bool
 ready n room p to = room_for p.done p.calls p.at n to room
 
 unfoldable pub chunk_over : ℕ → List ℕ → ℕ → ℕ → Standing → List ℕ

@@ -1,12 +1,12 @@
-// What each call of a run does: it goes to the intake, with the front of the lent output.
+// What each call of a run does: it goes to the intake, with the front of the lent output. State, run, pool and output are handed on one by one, as the
+// intake takes them: a struct of them would lend each part anew for a single call.
 ghost use Rattle.std.specs.Prelude.{◌≡◌, ◌≤◌, length};
 ghost use Rattle.runfile.specs.Calls.{call_in, call_size};
 ghost use Rattle.runfile.specs.declared.Call.TheVariants.{Packet, Closing};
-ghost use Rattle.replaying.specs.Running.{ran, call_pool, call_out};
+ghost use Rattle.replaying.specs.Running.{ran, call_pool, call_out, first_ran, first_pool, first_out};
 
 use crate::{Outcome, Ran};
 use intake::{close_lane, open_lane, take_packet};
-use numbers::smaller;
 use runfile::{CLOSING, Call, OPENING, PACKET, call_in};
 use state::State;
 
@@ -24,7 +24,7 @@ fn run_packet(
     ensures pool_after { pool.new ≡ call_pool state s.now pool.old out.old (Packet lane space octets) }
     ensures out_after { out.new ≡ call_out state s.now pool.old out.old (Packet lane space octets) }
 {
-    let room = smaller(space as usize, out.len());
+    let room = (space as usize).min(out.len());
     let end = PACKET + octets as usize;
     let answered = take_packet(
         state,
@@ -33,12 +33,13 @@ fn run_packet(
         pool,
         &mut out[..room],
     );
-    let answer = answered.answer;
-    let after = answered.state;
     Ran {
-        outcome: Outcome::Taken { lane, answer },
+        outcome: Outcome::Taken {
+            lane,
+            answer: answered.answer,
+        },
         octets: end,
-        state: after,
+        state: answered.state,
     }
 }
 
@@ -46,49 +47,41 @@ fn run_closing(state: State, s: &[u8], lane: u8, space: u32, pool: &[u8], out: &
     ensures value { result ≡ ran state s.now pool.now out.old (Closing lane space) }
     ensures out_after { out.new ≡ call_out state s.now pool.now out.old (Closing lane space) }
 {
-    let room = smaller(space as usize, out.len());
+    let room = (space as usize).min(out.len());
     let changed = close_lane(state, lane as usize, pool, &mut out[..room]);
-    let after = changed.state;
     Ran {
         outcome: Outcome::Closed {
             lane,
             refusal: changed.refusal,
         },
         octets: CLOSING,
-        state: after,
+        state: changed.state,
     }
 }
 
-// Runs the call at the front of s.
-pub(crate) fn run_call(state: State, s: &[u8], pool: &mut [u8], out: &mut [u8]) -> Ran
-    ensures value { result ≡ ran state s.now pool.old out.old (call_in s.now) }
-    ensures pool_after { pool.new ≡ call_pool state s.now pool.old out.old (call_in s.now) }
-    ensures out_after { out.new ≡ call_out state s.now pool.old out.old (call_in s.now) }
+// Runs the call at the front of s; None where there is no whole one.
+pub(crate) fn run_call(state: State, s: &[u8], pool: &mut [u8], out: &mut [u8]) -> Option<Ran>
+    ensures value { result ≡ first_ran state s.now pool.old out.old (call_in s.now) }
+    ensures pool_after { pool.new ≡ first_pool state s.now pool.old out.old (call_in s.now) }
+    ensures out_after { out.new ≡ first_out state s.now pool.old out.old (call_in s.now) }
 {
-    let call = call_in(s);
-    match call {
+    match call_in(s)? {
         Call::Opening { lane, settings } => {
             let changed = open_lane(state, lane as usize, settings, pool);
-            let after = changed.state;
-            Ran {
+            Some(Ran {
                 outcome: Outcome::Opened {
                     lane,
                     refusal: changed.refusal,
                 },
                 octets: OPENING,
-                state: after,
-            }
+                state: changed.state,
+            })
         }
         Call::Packet {
             lane,
             space,
             octets,
-        } => run_packet(state, s, lane, space, octets, pool, out),
-        Call::Closing { lane, space } => run_closing(state, s, lane, space, pool, out),
-        Call::Bad => Ran {
-            outcome: Outcome::Stopped,
-            octets: 0,
-            state,
-        },
+        } => Some(run_packet(state, s, lane, space, octets, pool, out)),
+        Call::Closing { lane, space } => Some(run_closing(state, s, lane, space, pool, out)),
     }
 }

@@ -11,20 +11,29 @@ ghost use Rattle.telling.specs.Lines.{Lined};
 ghost use Rattle.replaying.specs.Run.{standing, finished, ready, next, next_text, chunk_text, chunk_after, chunk_of};
 
 use calls::run_call;
+use grouping::Refused;
 use intake::Answer;
 use lines::put_told;
-use runfile::Progress;
 use state::State;
-use telling::put_last;
+use telling::{Progress, put_last};
 use text::put;
 
-// What is told of a call: the refusal or 0, or the answer to a packet. `Stopped` where there is no whole call.
+// What is told of a call: the refusal or 0, or the answer to a packet. The refusal of an opening or a closing is a number and no Result, as the intake gives
+// it to C (`Changed`).
 #[derive(Clone, Copy)]
 pub enum Outcome {
-    Opened { lane: u8, refusal: u8 },
-    Taken { lane: u8, answer: Answer },
-    Closed { lane: u8, refusal: u8 },
-    Stopped,
+    Opened {
+        lane: u8,
+        refusal: u8,
+    },
+    Taken {
+        lane: u8,
+        answer: Result<Answer, Refused>,
+    },
+    Closed {
+        lane: u8,
+        refusal: u8,
+    },
 }
 
 // What is told of a call, its octets in the run file, and the state after it.
@@ -38,7 +47,7 @@ pub struct Ran {
 // A chunk of a run's text: where the run stands after it, and its octets.
 #[derive(Clone, Copy)]
 pub struct Chunk {
-    pub progress: Progress,
+    pub progress: Progress<State>,
     pub octets: usize,
 }
 
@@ -53,18 +62,12 @@ fn is_ready(n: usize, room: usize, chunk: Chunk) -> bool
     telling::is_ready(p.done, p.calls, p.at, n, chunk.octets, room)
 }
 
-// A chunk that ends with the run.
-fn stopped(p: Progress, octets: usize) -> Chunk
+// A chunk that ends with the run. What it shares with the end of a frame file is `..p`, as `deframing` says.
+fn stopped(p: Progress<State>, octets: usize) -> Chunk
     ensures { (result.progress ≡ finished p) × (result.octets ≡ octets) }
 {
-    let state = p.state;
     Chunk {
-        progress: Progress {
-            at: p.at,
-            calls: p.calls,
-            done: true,
-            state,
-        },
+        progress: Progress { done: true, ..p },
         octets,
     }
 }
@@ -83,33 +86,27 @@ fn step(run: &[u8], chunk: Chunk, pool: &mut [u8], out: &mut [u8], text: &mut [u
         let end = put(text, to, b"too long\n");
         return stopped(p, end);
     }
-    let at = p.at;
-    let before = p.state;
-    let ran = run_call(before, &run[at..], pool, out);
-    let size = ran.octets;
-    if size == 0 {
-        let end = put_last(text, to, run.len(), at, p.calls, pool);
+    let Some(ran) = run_call(p.state, &run[p.at..], pool, out) else {
+        let end = put_last(text, to, run.len(), p.at, p.calls, pool);
         return stopped(p, end);
-    }
-    let told = ran.outcome;
-    let state = ran.state;
-    let octets = put_told(text, to, at, told, out);
+    };
+    let octets = put_told(text, to, p.at, ran.outcome, out);
     Chunk {
         progress: Progress {
-            at: at + size,
+            at: p.at + ran.octets,
             calls: p.calls + 1,
             done: false,
-            state,
+            state: ran.state,
         },
         octets,
     }
 }
 
 // The next chunk of the text of a run, put at the front of text: as many steps as there is room for. The run goes on where `progress` stands,
-// with the pool and the output as the last chunk left them.
+// with the pool and the output as the last chunk left them. What is lent stays with who calls, so it is handed in one by one.
 pub fn replay_some(
     run: &[u8],
-    progress: Progress,
+    progress: Progress<State>,
     pool: &mut [u8],
     out: &mut [u8],
     text: &mut [u8],

@@ -13,14 +13,21 @@ use lib.ListN.{length, get_or, set, length-append}
 use Rattle.octets.specs.Octets.{one}
 use Rattle.octets.proofs.Order.{either}
 use Rattle.packet.specs.Space.{counts, flags, count}
-use Rattle.reading.specs.Reading.{refusal, place}
+use Rattle.reading.specs.Reading.{refusal}
 use Rattle.record.specs.Record.{most_packets}
 use Rattle.marks.specs.Blocks.{blocks_for}
 use Rattle.lane.specs.declared.Settings.{Settings}
 use Rattle.lane.specs.declared.Lane.{Lane}
 use Rattle.grouping.specs.declared.Added.{Added}
-use Rattle.grouping.specs.declared.Step.{Step}
-use Rattle.grouping.specs.declared.Step.TheVariants.{Refuse, Unread, Repeat, Stray, Hold, Unit}
+use Rattle.grouping.specs.Steps.{Outcome}
+use Rattle.std.specs.Prelude.{Result, Ok, Err}
+use Rattle.refusal.specs.Refusal.{number, named}
+use Rattle.refusal.specs.declared.Refusal.{Refusal}
+use Rattle.refusal.proofs.Numbers.{of_its_name}
+use Rattle.grouping.specs.declared.Refused.{Refused}
+use Rattle.grouping.specs.declared.Refused.TheVariants.{Unread, Untaken}
+use Rattle.grouping.specs.declared.Step.TheVariants.{Repeat, Stray, Hold, Unit}
+use Rattle.grouping.specs.Plans as plans
 use Rattle.grouping.specs.declared.Plan.{Plan}
 use Rattle.grouping.specs.declared.Plan.TheVariants.{Sure}
 use Rattle.lane.specs.Lane.{holding, closed, credit_of}
@@ -29,7 +36,7 @@ use Rattle.grouping.specs.Grouping.{missing_before, goes_on, added_from}
 use Rattle.grouping.specs.Grouping as lane
 use Rattle.grouping.specs.Plans.{hold_plan, unit_plan, grouping_plan, accepted_plan, packet_plan}
 use Rattle.grouping.specs.Steps.{counted, lane_after}
-use Rattle.grouping.proofs.Accepted.{accepted_data, fault_least}
+use Rattle.grouping.proofs.Accepted.{accepted_data, fault_least, fault_most}
 use Rattle.grouping.proofs.Planned.{of_either}
 use Rattle.state.specs.State.{within}
 use Rattle.intake.specs.Calls.{settle}
@@ -47,13 +54,13 @@ pub credited : (s : Settings) (ps : List Taken) → credit_of (lane_with s ps) �
 credited s ps = refl
 
 -- the step of a packet p that comes to it: it refuses; or it is a Repeat, by the rule; or the lane, the answer and the output are the rule's
-pub data Follows (s : Settings) (ps : List Taken) (p out : List ℕ) : Step → Type 0 where
-  refuses : (k : ℕ) → 8 ≤ k → Follows s ps p out (Refuse k)
-  unread : (refusal p ≡ 0 → ⊥) → Follows s ps p out (Unread (refusal p) (place p))
-  repeats_it : repeats ps (taken_of s p) ≡ true → Follows s ps p out Repeat
-  accepts : (d : Step) → repeats ps (taken_of s p) ≡ false
+pub data Follows (s : Settings) (ps : List Taken) (p out : List ℕ) : Outcome → Type 0 where
+  refuses : (r : Refusal) → 8 ≤ number r → Follows s ps p out (Err (Untaken r))
+  unread : (refusal p ≡ 0 → ⊥) → Follows s ps p out (Err (Unread (plans.unread p)))
+  repeats_it : repeats ps (taken_of s p) ≡ true → Follows s ps p out (Ok Repeat)
+  accepts : (d : Outcome) → repeats ps (taken_of s p) ≡ false
       → slot_after (slot_with s ps) p d ≡ slot_with s (taken_of s p ∷ ps)
-      → answer_of d ≡ answer_to ps (taken_of s p)
+      → answer_of d ≡ Ok (answer_to ps (taken_of s p))
       → out_from (octets_in (group ps)) (user_data s p) d out ≡ with_unit out (unit ps (taken_of s p))
       → Follows s ps p out d
 
@@ -106,10 +113,10 @@ module _ (s : Settings) (ps : List Taken) (small : last_count ps < counts) (p ou
   q = taken_of s p
 
   -- a step, and a plan, however it is settled
-  abbrev Does : Step → Type 0
+  abbrev Does : Outcome → Type 0
   Does = Follows s ps p out
 
-  abbrev Plans : Plan → Type 0
+  abbrev Plans : Result Plan Refused → Type 0
   Plans d = (ls : List Lane) (at : ℕ) → Does (settle ls at d)
 
   -- the tests on the lane are the rule's
@@ -131,14 +138,14 @@ module _ (s : Settings) (ps : List Taken) (small : last_count ps < counts) (p ou
 
   module _ (new : repeats ps q ≡ false) where
     -- the lane then, and the rule's word on the packet, where it makes the unit u and leaves the group g
-    word : (d : Step) (u g : Option (List ℕ)) → u ≡ unit ps q → g ≡ group (q ∷ ps) → slot_after (slot_with s ps) p d ≡ counting ps q s u g
-        → answer_of d ≡ answer_with u g (missing ps q) (gives_up ps q) → out_from (octets_in (group ps)) q.user d out ≡ with_unit out u → Does d
+    word : (d : Outcome) (u g : Option (List ℕ)) → u ≡ unit ps q → g ≡ group (q ∷ ps) → slot_after (slot_with s ps) p d ≡ counting ps q s u g
+        → answer_of d ≡ Ok (answer_with u g (missing ps q) (gives_up ps q)) → out_from (octets_in (group ps)) q.user d out ≡ with_unit out u → Does d
     unfolding answer_to
     word d u g e f slot answer output = accepts d new (slot ∙ grown ps q s u g e f) (answer ∙ rw (e, f)) (output ∙ ap (with_unit out) e)
 
-    strays : none ≡ unit ps q → none ≡ group (q ∷ ps) → Plans (Sure (Stray (added ps q)))
+    strays : none ≡ unit ps q → none ≡ group (q ∷ ps) → Plans (Ok (Sure (Stray (added ps q))))
     unfolding settle lane_after one
-    strays e f ls at = word (Stray (added ps q)) none none e f refl refl refl
+    strays e f ls at = word (Ok (Stray (added ps q))) none none e f refl refl refl
 
     -- the group, if it goes on, and the user data
     abbrev whole : Bool → List ℕ
@@ -151,13 +158,13 @@ module _ (s : Settings) (ps : List Taken) (small : last_count ps < counts) (p ou
       holds : none ≡ unit ps q → some (whole on) ≡ group (q ∷ ps) → Plans (hold_plan s (added ps q) on n)
       unfolding hold_plan settle lane_after one
       holds e f =
-          of_either Plans (ltb s.cap (blocks_for n)) (λ t ls at. refuses 19 (omega arith))
+          of_either Plans (ltb s.cap (blocks_for n)) (λ t ls at. refuses (named 19) (omega arith))
           (λ t ls at. of_either Does (within (set ls at (holding (get_or ls at closed) n)))
-          (λ r. word (Hold (added ps q) on n) none (some (whole on)) e f refl refl refl) (λ r. refuses 27 (omega arith)))
+          (λ r. word (Ok (Hold (added ps q) on n)) none (some (whole on)) e f refl refl refl) (λ r. refuses (named 27) (omega arith)))
 
       ends : some (whole on) ≡ unit ps q → none ≡ group (q ∷ ps) → Plans (unit_plan (length out) (added ps q) on n)
       unfolding unit_plan settle lane_after one
-      ends e f = of_either Plans (ltb (length out) n) (λ t ls at. refuses 20 (omega arith)) (λ t ls at. word (Unit (added ps q) on n) (some (whole on)) none e f refl refl refl)
+      ends e f = of_either Plans (ltb (length out) n) (λ t ls at. refuses (named 20) (omega arith)) (λ t ls at. word (Ok (Unit (added ps q) on n)) (some (whole on)) none e f refl refl refl)
 
     -- by the flags, and whether the open group goes on
     abbrev goes : Bool
@@ -188,7 +195,7 @@ module _ (s : Settings) (ps : List Taken) (small : last_count ps < counts) (p ou
         let z : flags p ≡ 2 = omega (arith, eqb-false (flags p) 3 no3, eqb-false (flags p) 1 no1, eqb-false (flags p) 0 no0) in
         ends true (rw e (simp z)) (simp z)))))))
 
-  repeated : repeats ps q ≡ true → Plans (Sure Repeat)
+  repeated : repeats ps q ≡ true → Plans (Ok (Sure Repeat))
   unfolding settle lane_after
   repeated e ls at = repeats_it e
 
@@ -197,7 +204,9 @@ module _ (s : Settings) (ps : List Taken) (small : last_count ps < counts) (p ou
   planned =
       of_either Plans (not (eqb (refusal p) 0)) (λ r ls at. unread (eqb-false _ _ (not-true _ r)))
       (λ r. of_either Plans (not (eqb (fault (terms_of l) p) 0))
-      (λ e ls at. refuses (fault (terms_of l) p) (omega (arith, fault_least (terms_of l) p (eqb-true _ _ (not-false _ r)) (eqb-false _ _ (not-true _ e)))))
+      (λ e ls at.
+      let least = fault_least (terms_of l) p (eqb-true _ _ (not-false _ r)) (eqb-false _ _ (not-true _ e)) in
+      refuses (named (fault (terms_of l) p)) (omega (arith, of_its_name (fault (terms_of l) p) (omega (arith, least)) (omega (arith, fault_most (terms_of l) p)), least)))
       (λ e. of_either Plans (lane.repeats l (count p)) (λ f. repeated (sym (repeats_same s ps p) ∙ f))
-      (λ f. of_either Plans (leb most_packets (length ps)) (λ g ls at. refuses 18 (omega arith))
+      (λ f. of_either Plans (leb most_packets (length ps)) (λ g ls at. refuses (named 18) (omega arith))
       (λ g. rw (← (accepted_data (terms_of l) p (eqb-true _ _ (not-false _ e))).1) (grouping (sym (repeats_same s ps p) ∙ f))))))

@@ -1,30 +1,22 @@
-// Run files: the calls in them, one after another, and where a run of them stands.
+// Run files: the calls in them, one after another, and where a run of them begins.
 #![tactic(auto)]
 
 ghost use Rattle.std.specs.Prelude.{◌≡◌};
-ghost use Rattle.runfile.specs.Calls.{settings_in, opening_in, packet_in, closing_in, call_in};
+ghost use Rattle.runfile.specs.Calls.{settings_in, call_in, call_size};
+ghost use Rattle.runfile.specs.Begun.{begun_in};
 ghost use Rattle.runfile.specs.Start.{start};
 
 use lane::Settings;
 use octets::{be16_at, be32_at, octet_at};
 use state::{State, fresh_start};
+use telling::Progress;
 
-// A call of the run file. `space` is the output space that it asks for; `octets` are those of the packet. `Bad` is no whole call.
-#[derive(Clone, Copy)]
+// A call of the run file. `space` is the output space that it asks for; `octets` are those of the packet.
+#[derive(Clone, Copy, Debug, PartialEq, Eq)]
 pub enum Call {
     Opening { lane: u8, settings: Settings },
     Packet { lane: u8, space: u32, octets: u32 },
     Closing { lane: u8, space: u32 },
-    Bad,
-}
-
-// Where a run stands: the octets of whole calls behind it, their number, whether its text is whole, and the intake's state.
-#[derive(Clone, Copy)]
-pub struct Progress {
-    pub at: usize,
-    pub calls: usize,
-    pub done: bool,
-    pub state: State,
 }
 
 // The octets of an opening.
@@ -37,15 +29,14 @@ pub const PACKET: usize = 10;
 pub const CLOSING: usize = 6;
 
 // Before the first call.
-pub fn begin() -> Progress
+pub fn begin() -> Progress<State>
     ensures { result ≡ start }
 {
-    let state = fresh_start();
     Progress {
         at: 0,
         calls: 0,
         done: false,
-        state,
+        state: fresh_start(),
     }
 }
 
@@ -62,58 +53,43 @@ fn settings_in(s: &[u8]) -> Settings
     }
 }
 
-fn opening_in(s: &[u8]) -> Call
-    ensures { result ≡ opening_in s.now }
+// The octets of a call.
+fn size_of(call: Call) -> usize
+    ensures { result ≡ call_size call }
 {
-    if s.len() < OPENING {
-        return Call::Bad;
-    }
-    let settings = settings_in(s);
-    Call::Opening {
-        lane: octet_at(s, 1),
-        settings,
+    match call {
+        Call::Opening { .. } => OPENING,
+        Call::Packet { octets, .. } => PACKET + octets as usize,
+        Call::Closing { .. } => CLOSING,
     }
 }
 
-fn packet_in(s: &[u8]) -> Call
-    ensures { result ≡ packet_in s.now }
+// The call that s begins with by its first octet, as far as it is there.
+fn begun_in(s: &[u8]) -> Option<Call>
+    ensures { result ≡ begun_in s.now }
 {
-    let octets = be32_at(s, 6);
-    if s.len() < PACKET + octets as usize {
-        return Call::Bad;
-    }
-    Call::Packet {
-        lane: octet_at(s, 1),
-        space: be32_at(s, 2),
-        octets,
+    let lane = octet_at(s, 1);
+    match octet_at(s, 0) {
+        b'O' => Some(Call::Opening {
+            lane,
+            settings: settings_in(s),
+        }),
+        b'P' => Some(Call::Packet {
+            lane,
+            space: be32_at(s, 2),
+            octets: be32_at(s, 6),
+        }),
+        b'C' => Some(Call::Closing {
+            lane,
+            space: be32_at(s, 2),
+        }),
+        _ => None,
     }
 }
 
-fn closing_in(s: &[u8]) -> Call
-    ensures { result ≡ closing_in s.now }
-{
-    if s.len() < CLOSING {
-        return Call::Bad;
-    }
-    Call::Closing {
-        lane: octet_at(s, 1),
-        space: be32_at(s, 2),
-    }
-}
-
-// The call at the front of s.
-pub fn call_in(s: &[u8]) -> Call
+// The call at the front of s, where there is a whole one.
+pub fn call_in(s: &[u8]) -> Option<Call>
     ensures { result ≡ call_in s.now }
 {
-    let kind = octet_at(s, 0);
-    if kind == b'O' {
-        return opening_in(s);
-    }
-    if kind == b'P' {
-        return packet_in(s);
-    }
-    if kind == b'C' {
-        return closing_in(s);
-    }
-    Call::Bad
+    begun_in(s).filter(|call| size_of(*call) <= s.len())
 }

@@ -1,13 +1,15 @@
--- The test for 24 as the code makes it: three parts, each left out where an earlier one fails; and what a call knows once it has passed.
+-- The test of soundness as the code makes it: the lanes by themselves, then the marks; and what a call knows once it has passed the test for 24.
 use Prim.Native.Nat.{ℕ, zero, suc, ◌<◌}
 use mathlib.Core.Path.{◌≡◌, refl, sym, ap, ◌∙◌}
-use mathlib.Core.Bool.{Bool, true, false, not, ◌&&◌, true≢false}
+use mathlib.Core.Bool.{Bool, true, false, ◌&&◌, true≢false}
 use mathlib.Core.List.{List, [], ◌∷◌, map}
 use native.Mathlib.Decide.{dec_lt}
 use native.Mathlib.Omega.{arith}
-use borrow.Author.Tests.{eq-eqb, ne_eqb, eqb-true, not-false}
+use borrow.Author.Tests.{eqb-true, not-false}
 use lib.Dec.{eqb}
 use lib.ListN.{length, get_or, get_or-eq_default}
+use Rattle.std.specs.Bool.{then_some}
+use Rattle.std.proofs.Common.{Some, None}
 use Rattle.octets.proofs.Order.{both}
 use Rattle.record.specs.Record.{possible}
 use Rattle.marks.specs.Blocks.{blocks_for}
@@ -19,37 +21,26 @@ use Rattle.lane.specs.Lane.{closed, held, illegal, tallies_possible, fine}
 use Rattle.state.specs.declared.State.{State}
 use Rattle.state.specs.State.{lane_at, within, every, sound, unsound}
 
-module _ (s : State) (f : Bool) (ef : f ≡ every fine s.lanes) where
-  pub not_fine : f ≡ false → false ≡ sound s
+-- what is there only where b holds
+some_only : {A : Type 0} (b : Bool) (x y : A) → Some y ≡ then_some b x → (b ≡ true) × (y ≡ x)
+some_only true x y e = (refl, cc)
+some_only false x y e = cc
+
+none_only : {A : Type 0} (b : Bool) (x : A) → None ≡ then_some b x → b ≡ false
+none_only true x e = cc
+none_only false x e = refl
+
+module _ (s : State) where
+  abbrev lanes_sound : Bool
+  lanes_sound = every fine s.lanes && within s.lanes
+
+  pub marks_decide : (hs : List ℕ) → Some hs ≡ then_some lanes_sound (map held s.lanes) → matching s.marks hs ≡ sound s
   unfolding sound
-  not_fine h = simp (sym ef ∙ h)
+  marks_decide hs e = let only = some_only lanes_sound (map held s.lanes) hs e in rw (only.0, only.1)
 
-  module _ (h : f ≡ true) (w : Bool) (ew : w ≡ within s.lanes) where
-    pub too_much : w ≡ false → false ≡ sound s
-    unfolding sound
-    too_much k = simp (sym ef ∙ h, sym ew ∙ k)
-
-    pub matches : w ≡ true → (hs : List ℕ) → hs ≡ map held s.lanes → (m : Bool) → m ≡ matching s.marks hs → m ≡ sound s
-    unfolding sound
-    matches k hs eh m em = simp (sym ef ∙ h, sym ew ∙ k, ← eh) em
-
--- and the pool's length
-module _ (s : State) (n : ℕ) where
-  pub by_state : n ≡ pool_octets → (b : Bool) → b ≡ sound s → not b ≡ unsound s n
-  unfolding unsound
-  by_state e b eb = simp (eq-eqb n pool_octets e, ← eb, and_true b)
-    where
-      and_true : (b : Bool) → b && true ≡ b
-      and_true true = refl
-      and_true false = refl
-
-  pub by_pool : (n ≡ pool_octets → ⊥) → true ≡ unsound s n
-  unfolding unsound
-  by_pool e = simp (ne_eqb n pool_octets e, and_false (sound s))
-    where
-      and_false : (b : Bool) → b && false ≡ false
-      and_false true = refl
-      and_false false = refl
+  pub lanes_decide : None ≡ then_some lanes_sound (map held s.lanes) → false ≡ sound s
+  unfolding sound
+  lanes_decide e = rw (none_only lanes_sound (map held s.lanes) e)
 
 -- ---- what is known once the test has passed
 pub then_sound : (s : State) (octets : ℕ) → unsound s octets ≡ false → (sound s ≡ true) × (octets ≡ pool_octets)

@@ -1,13 +1,12 @@
 -- A turn of each loop over the eight lanes takes one lane from the front of those that are left.
-use Prim.Native.Nat.{ℕ, zero, suc, ◌+◌, ◌*◌, ◌≤◌, ◌<◌}
+use Prim.Native.Nat.{ℕ, ◌+◌, ◌*◌, ◌≤◌, ◌<◌}
 use mathlib.Core.Path.{◌≡◌, refl, sym, ap, ◌∙◌}
 use mathlib.Core.Bool.{Bool, true, false}
 use mathlib.Core.List.{List, [], ◌∷◌, ◌++◌, map}
 use native.Mathlib.Numerals.{add-one}
 use native.Mathlib.Omega.{arith}
-use lib.ListN.{length, get_or, set, take, drop, replicate, length-set, drop_of_length-le}
-use lib.Seq.{drop-cons, take_all, take-suc, take-suc-set, set-get_or, get_or-set_other}
-use Rattle.marks.specs.Blocks.{blocks_for}
+use lib.ListN.{length, get_or, set, take, drop, length-set, drop_of_length-le}
+use lib.Seq.{drop-cons, take_all, take-suc, take-suc-set, get_or-set_other}
 use Rattle.lane.specs.declared.Lane.{Lane}
 use Rattle.lane.specs.Lane.{closed, held, need, fine}
 use Rattle.state.specs.State.{total, every}
@@ -47,22 +46,9 @@ pub record Passed (ls : List Lane) (i : ℕ) (hs : List ℕ) (sum : ℕ) : Type 
   pub noted : take i hs ≡ map held (take i ls)
   pub empty : (k : ℕ) → i ≤ k → get_or hs k 0 ≡ 0
 
-pub passed_none : (ls : List Lane) → Passed ls 0 (replicate 8 0) 0
-passed_none ls = record { decided = refl; summed = omega arith; small = omega arith; eight = refl; noted = refl; empty = λ k h. zeros 8 k }
-  where
-    zeros : (n k : ℕ) → ◌≡◌ {A = ℕ} (get_or (replicate n 0) k 0) 0
-    zeros zero k = refl
-    zeros (suc n) zero = refl
-    zeros (suc n) (suc k) = zeros n k
-
 module _ (ls : List Lane) (i : ℕ) (hs : List ℕ) (sum : ℕ) (p : Passed ls i hs sum) where
   abbrev own : Lane
   own = get_or ls i closed
-
-  -- a lane without octets holds what is noted already
-  pub none_held : own.octets ≡ 0 → hs ≡ set hs i (held own)
-  unfolding blocks_for
-  none_held e = rw (e, ← p.empty i (omega arith), set-get_or hs i 0)
 
   pub passed_one : i < length ls → i < 8 → fine own ≡ true → (n : ℕ) → n ≡ need own → n ≤ 256 → (after : List ℕ) → after ≡ set hs i (held own)
       → Passed ls (i + 1) after (sum + n)

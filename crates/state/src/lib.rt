@@ -1,9 +1,11 @@
 // The state of the intake: eight lanes that share one pool, when it is sound, and whether the lanes are within the pool.
 #![tactic(auto)]
 
-ghost use Rattle.std.specs.Prelude.{◌≡◌, ◌≤◌, leb, length, set};
+ghost use Rattle.std.specs.Prelude.{◌≡◌, ◌≤◌, ◌&&◌, leb, length, map, set};
+ghost use Rattle.std.specs.Bool.{then_some};
 ghost use Rattle.marks.specs.Blocks.{blocks, blocks_for};
-ghost use Rattle.state.specs.State.{fresh_state, total, within, sound, unsound};
+ghost use Rattle.lane.specs.Lane.{held, fine};
+ghost use Rattle.state.specs.State.{fresh_state, total, within, every, sound, unsound};
 
 use lane::{CLOSED, Lane, is_fine, need_of};
 use marks::{BLOCKS, FREE, blocks_for, marks_match};
@@ -18,6 +20,7 @@ pub struct State {
 }
 
 // Eight closed lanes, and every block free.
+#[tactic(auto, unfolding(crate::specs::State::fresh_state))]
 pub fn fresh_start() -> State
     ensures { result ≡ fresh_state }
 {
@@ -35,77 +38,66 @@ fn does_fit(sum: usize) -> bool
 }
 
 // What the open lanes hold or are promised.
-fn total_of(lanes: [Lane; 8]) -> usize
-    ensures { (result ≡ total lanes) × (result ≤ 2048) }
+fn total_of(lanes: &[Lane; 8]) -> usize
+    ensures { (result ≡ total lanes.now) × (result ≤ 2048) }
 {
     let mut sum = 0;
-    let mut i = 0;
-    while i < 8 {
-        sum += need_of(lanes[i]);
-        i += 1;
+    for l in lanes {
+        sum += need_of(*l);
     }
     sum
 }
 
-// Whether what the lanes hold or are promised fits the pool once lane i is l: that lane's part of the sum is exchanged.
+// Whether what the lanes hold or are promised fits the pool once lane i is l: that lane's part of the sum is exchanged. The lane
+// comes with its number as in a call, and not as a struct, which each caller would make for this one question.
 pub fn is_within(lanes: [Lane; 8], i: usize, l: Lane) -> bool
     ensures { result ≡ within (set lanes i l) }
 {
-    let sum = total_of(lanes);
-    if i < 8 {
-        return does_fit(sum - need_of(lanes[i]) + need_of(l));
+    let sum = total_of(&lanes);
+    match lanes.get(i) {
+        Some(old) => does_fit(sum - need_of(*old) + need_of(l)),
+        None => does_fit(sum),
     }
-    does_fit(sum)
-}
-
-// How many lanes there are. The array that is passed whole tells its length, which a field does not.
-fn count_of(lanes: [Lane; 8]) -> usize
-    ensures { (result ≡ 8) × (length lanes ≡ 8) }
-{
-    8
 }
 
 // The blocks of a lane's group; octets of 16 bits have at most 256.
+#[tactic(auto, unfolding(marks::specs::Blocks::blocks_for))]
 fn blocks_of(octets: u16) -> u16
     ensures { result ≡ blocks_for octets }
 {
-    blocks_for(octets as usize) as u16
+    blocks_for(usize::from(octets)) as u16
 }
 
-// Whether the state is sound. One pass over the lanes tells whether each is fine, what they come to and what they hold.
+// What each lane holds, where each is fine and they are within the pool: one pass tells both, and what they come to.
+fn held_if_sound(lanes: &[Lane; 8]) -> Option<[u16; 8]>
+    ensures { result ≡ then_some (every fine lanes.now && within lanes.now) (map held lanes.now) }
+{
+    let mut held = [0u16; 8];
+    let mut total = 0;
+    for (i, l) in lanes.iter().enumerate() {
+        if !is_fine(*l) {
+            return None;
+        }
+        total += need_of(*l);
+        held[i] = blocks_of(l.octets);
+    }
+    does_fit(total).then_some(held)
+}
+
+// Whether the state is sound.
 pub fn is_sound(s: State) -> bool
     ensures { result ≡ sound s }
 {
-    let lanes = s.lanes;
-    let count = count_of(lanes);
-    let mut held = [0u16; 8];
-    let mut total = 0;
-    let mut i = 0;
-    while i < count {
-        let l = lanes[i];
-        if !is_fine(l) {
-            return false;
-        }
-        total += need_of(l);
-        if l.octets != 0 {
-            held[i] = blocks_of(l.octets);
-        }
-        i += 1;
+    match held_if_sound(&s.lanes) {
+        Some(held) => marks_match(s.marks, held),
+        None => false,
     }
-    if does_fit(total) {
-        let marks = s.marks;
-        return marks_match(marks, held);
-    }
-    false
 }
 
 // Whether a call with a pool of so many octets is refused by 24.
+#[tactic(auto, unfolding(crate::specs::State::unsound))]
 pub fn is_unsound(s: State, octets: usize) -> bool
     ensures { result ≡ unsound s octets }
 {
-    if octets == POOL_OCTETS {
-        !is_sound(s)
-    } else {
-        true
-    }
+    octets != POOL_OCTETS || !is_sound(s)
 }

@@ -4,6 +4,9 @@ use prog.Linked.{Tree, World, Holds, in_world}
 use prog.LinkedThreads.{HasT}
 use Rattle.telling.proofs.TheLink as Link
 use Rattle.adler.proofs.adler32.Symbol as adler_adler32
+use Rattle.std.proofs.prelude.BoolClone.clone.Symbol as BoolClone_clone
+use Rattle.std.proofs.prelude.UsizeClone.clone.Symbol as UsizeClone_clone
+use Rattle.std.below.core.proofs.int.usize.saturating_sub.Symbol as usize_saturating_sub
 use Rattle.text.proofs.put.Symbol as text_put
 use Rattle.text.proofs.put_decimal.Symbol as text_put_decimal
 use Rattle.text.proofs.put_numbers.Symbol as text_put_numbers
@@ -19,10 +22,13 @@ table = Link.table
 abbrev pub Calls : World → Type 0
 Calls W =
     HasT (in_world W) true adler_adler32.code ×
+    (HasT (in_world W) true BoolClone_clone.code ×
+    (HasT (in_world W) true UsizeClone_clone.code ×
+    (HasT (in_world W) true usize_saturating_sub.code ×
     (HasT (in_world W) true text_put.code ×
     (HasT (in_world W) true text_put_decimal.code ×
     (HasT (in_world W) true text_put_numbers.code ×
-    Unit {0})))
+    Unit {0}))))))
 
 pub has_is_ready : (W : World) → Holds W "telling" table → Calls W → HasT (in_world W) true own_is_ready.code
 unfolding table

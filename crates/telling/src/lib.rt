@@ -1,5 +1,5 @@
 // The lines that the texts of runs share: one for a call, one where a run stops before its end, and the last one. As in the crate text every function is
-// total, text is cut where the output ends, and each answers the place after what it put.
+// total, text is cut where the output ends, and each answers the place after what it put. Text and place are handed on one by one, as there.
 #![tactic(auto)]
 
 ghost use Rattle.std.specs.Prelude.{◌≡◌, length};
@@ -9,17 +9,25 @@ ghost use Rattle.telling.specs.Lines.{line, bad_line, end_line, last_lines, read
 use adler::adler32;
 use text::{put, put_decimal, put_numbers};
 
+// Where a run stands: the octets of whole calls behind it, their number, whether its text is whole, and the state that it goes on from. The flag is no Option of
+// the rest, since a run whose text is whole tells the same numbers on (`finished`, in the specs of replaying and of deframing).
+#[derive(Clone, Copy)]
+pub struct Progress<S> {
+    pub at: usize,
+    pub calls: usize,
+    pub done: bool,
+    pub state: S,
+}
+
 // Room for the text of any step of a run.
 pub const LINE_ROOM: usize = 192;
 
 // Whether a step can be taken: in a run of n octets that is not done and stands at index at, after so many calls; its text would go to index `to` of so much room.
+// The flag is that of `Progress`, handed on.
 pub fn is_ready(done: bool, calls: usize, at: usize, n: usize, to: usize, room: usize) -> bool
     ensures { result ≡ ready done calls at n to room }
 {
-    if room < LINE_ROOM {
-        return false;
-    }
-    !done & (calls <= at) & (at <= n) & (to <= room - LINE_ROOM)
+    !done & (calls <= at) & (at <= n) & (LINE_ROOM <= room.saturating_sub(to))
 }
 
 // Puts a line: an offset, what is called, its number, a word on what came of it, and numbers.

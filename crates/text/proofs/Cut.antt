@@ -1,6 +1,6 @@
 -- Text that is put after text is one text put once, cut or not: what carries everything that is written in steps. Where there is room for it,
 -- it is put whole.
-use Prim.Native.Nat.{ℕ, zero, suc, ◌+◌, ◌-◌, ◌≤◌}
+use Prim.Native.Nat.{ℕ, zero, suc, ◌+◌, ◌-◌, ◌≤◌, min}
 use mathlib.Core.Path.{◌≡◌, refl, sym, ap, ◌∙◌}
 use mathlib.Core.List.{List, [], ◌∷◌, ◌++◌, append-nil}
 use native.Mathlib.Nat.{add-zero, sub-zero}
@@ -8,10 +8,10 @@ use native.Mathlib.Omega.{arith}
 use borrow.Author.Tests.{leb-true, leb-false}
 use lib.Dec.{leb}
 use lib.ListN.{length, take, length-append, length-take, take-append-drop}
-use lib.Seq.{take_all, take-nil, length-take-le}
-use Rattle.octets.specs.Output.{put}
+use lib.Seq.{take_all, take-nil, take-length}
+use Rattle.octets.specs.Output.{put, put_if_fits}
 use Rattle.octets.proofs.Order.{either}
-use Rattle.octets.proofs.Puts.{Wrote, Fits, nothing, put_length, put_put}
+use Rattle.octets.proofs.Puts.{Wrote, Fits, nothing, put_length, put_fits, not_put, put_put}
 use Rattle.text.specs.Written.{fitting, reached, written}
 
 -- what each function of the crate ensures: text was put into d from index at on, which gave out, and `to` is the place after it
@@ -45,17 +45,26 @@ module _ (d : List ℕ) (at : ℕ) (text : List ℕ) (h : length d ≤ at) where
   unfolding reached written put
   nothing_put = rw (none, add-zero, append-nil) (refl, sym (take-append-drop at d))
 
--- there is room for some
-module _ (d : List ℕ) (at : ℕ) (text : List ℕ) (h : at ≤ length d) (long : length d - at ≤ length text) where
-  pub cut_fits : Fits d at (take (length d - at) text)
-  cut_fits = omega (arith, length-take-le (length d - at) text long)
-
-  pub cut_put : {out : List ℕ} {to : ℕ} → Wrote d at (take (length d - at) text) out to → Put d at text out to
-  unfolding reached written fitting
-  cut_put w = w
-
 pub all_put : (d : List ℕ) (at : ℕ) (text : List ℕ) {out : List ℕ} {to : ℕ} → Fits d at text → Wrote d at text out to → Put d at text out to
 all_put d at text f (p, e) = (p ∙ sym (reached_whole d at text f), e ∙ sym (written_whole d at text f))
+
+-- what there is room for is put, cut or not
+taken : (text : List ℕ) (room : ℕ) → take (min (length text) room) text ≡ take room text
+taken text room =
+    either (leb (length text) room)
+    (λ t. let h = leb-true _ _ t in
+    let e : min (length text) room ≡ length text = omega arith in
+    rw e (take-length text ∙ sym (take_all room text h)))
+    (λ f. let e : min (length text) room ≡ room = omega (arith, leb-false (length text) room f) in rw e)
+
+pub cut : (d : List ℕ) (at : ℕ) (text : List ℕ) {n : ℕ} → n ≡ min (length text) (length d - at) → put_if_fits d at (take n text) ≡ written d at text
+unfolding written fitting
+cut d at text e =
+    rw (e, taken text (length d - at))
+    (either (leb at (length d)) (λ t. sym (put_fits d at (take (length d - at) text) (omega (arith, leb-true _ _ t, length-take (length d - at) text))))
+    (λ f. let h : length d ≤ at = omega (arith, leb-false at (length d) f) in
+    let no : take (length d - at) text ≡ [] = none d at text h in
+    rw no (sym (not_put d at [] (omega (arith, leb-false at (length d) f))) ∙ (nothing d at).1)))
 
 -- ---- in steps
 fitting_fits : (d : List ℕ) (at : ℕ) (text : List ℕ) → at ≤ length d → Fits d at (fitting (length d) at text)

@@ -8,7 +8,7 @@ use borrow.Author.Tests.{lt-ltb, le-ltb}
 use Rattle.io.specs.Digits.{hex_digit_ascii, last_digits, IsDigitCount}
 use Rattle.text.specs.Text.{digit, decimal_over, decimal}
 
-ten_grows : (k : ℕ) → k < 10 ^ k
+pub ten_grows : (k : ℕ) → k < 10 ^ k
 ten_grows zero = omega arith
 ten_grows (suc k) = omega (arith, ten_grows k, pow-suc 10 k)
 

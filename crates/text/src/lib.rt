@@ -1,5 +1,5 @@
 // Text put into a lent output at a place. Every function is total, so no caller owes room: text is cut where the output ends. Each answers the
-// place after what it put.
+// place after what it put. The output and the place are handed on one by one: a struct of both would have to borrow the output anew for each line.
 #![tactic(auto)]
 
 ghost use Rattle.std.specs.Prelude.{◌≡◌, [], ◌∷◌, ◌+◌, ◌≤◌, length};
@@ -14,28 +14,22 @@ pub fn put(out: &mut [u8], at: usize, text: &[u8]) -> usize
     ensures value { result ≡ reached (length out.old) at text.now }
     ensures out_after { out.new ≡ written out.old at text.now }
 {
-    if out.len() <= at {
-        return at;
-    }
-    let room = out.len() - at;
-    if text.len() <= room {
-        put_octets(out, at, text);
-        return at + text.len();
-    }
-    put_octets(out, at, &text[..room]);
-    at + room
+    let count = text.len().min(out.len().saturating_sub(at));
+    put_octets(out, at, &text[..count]);
+    at + count
 }
 
-// Puts n in decimal. Where there is room for all digits they are put straight into out; else they are made elsewhere and cut.
+// Puts n in decimal. One digit, as most numbers of a line have, is put without a division. Where there is room for all digits they are put straight
+// into out; else they are made elsewhere and cut.
 pub fn put_decimal(out: &mut [u8], at: usize, n: u64) -> usize
     ensures value { result ≡ reached (length out.old) at (decimal n) }
     ensures out_after { out.new ≡ written out.old at (decimal n) }
 {
-    if out.len() <= at {
-        return at;
+    if n < 10 {
+        return put_one(out, at, b'0' + n as u8);
     }
     let count = digits_of(n);
-    if count <= out.len() - at {
+    if count <= out.len().saturating_sub(at) {
         put_digits(out, at, count, n);
         return at + count;
     }
@@ -57,13 +51,7 @@ fn put_cut(out: &mut [u8], at: usize, n: u64) -> usize
 fn digits_of(n: u64) -> usize
     ensures { result ≡ length (decimal n) }
 {
-    let mut left = n;
-    let mut count = 1;
-    while 10 <= left {
-        left = left / 10;
-        count += 1;
-    }
-    count
+    n.max(1).ilog10() as usize + 1
 }
 
 // Puts the digits of n, of which there are `count`, from index at on. The last comes first, as it is what n leaves when it is divided by 10.
@@ -72,16 +60,14 @@ fn put_digits(out: &mut [u8], at: usize, count: usize, n: u64)
     ensures { out.new ≡ puts out.old at (decimal n) }
 {
     let mut left = n;
-    let mut to = at + count - 1;
-    while 10 <= left {
-        out[to] = (48 + left % 10) as u8;
-        left = left / 10;
-        to -= 1;
+    for to in (at..at + count).rev() {
+        out[to] = b'0' + (left % 10) as u8;
+        left /= 10;
     }
-    out[to] = (48 + left) as u8;
 }
 
-// Puts one octet.
+// Puts one octet. `put` would do the same, and `list` take a quarter more instructions for a recording of the shortest packets (docs/SPEED.md, list). It is stored by its index, as a proof knows
+// nothing of what is written through `get_mut`.
 fn put_one(out: &mut [u8], at: usize, octet: u8) -> usize
     ensures value { result ≡ reached (length out.old) at (octet ∷ []) }
     ensures out_after { out.new ≡ written out.old at (octet ∷ []) }
@@ -108,10 +94,8 @@ pub fn put_numbers(out: &mut [u8], at: usize, ns: &[u64]) -> usize
     ensures out_after { out.new ≡ written out.old at (numbers ns.now) }
 {
     let mut to = at;
-    let mut i = 0;
-    while i < ns.len() {
-        to = put_number(out, to, ns[i]);
-        i += 1;
+    for n in ns {
+        to = put_number(out, to, *n);
     }
     to
 }

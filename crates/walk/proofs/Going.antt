@@ -6,9 +6,14 @@ use native.Mathlib.Nat.{sub-zero, zero-add}
 use native.Mathlib.Omega.{arith}
 use borrow.Author.Tests.{eq-eqb, ne_eqb}
 use lib.ListN.{length, drop, length-drop}
+use Rattle.std.specs.Prelude.{None, Some}
+use Rattle.refusal.specs.Refusal.{number}
+use Rattle.refusal.proofs.Named.{of_its_number}
+use Rattle.packet.specs.declared.Unread.{Unread}
 use Rattle.reading.specs.Reading.{refusal, place as place_in}
 use Rattle.reading.proofs.Within.{within}
-use Rattle.walk.specs.Walk.{next, next_or_here, places_from, end_from, places, end, stop, stop_place}
+use Rattle.walk.specs.Walk.{next, places_from, end_from, places, end, stop, stop_place, stopped, walked}
+use Rattle.walk.specs.declared.Walked.{Walked}
 use Rattle.walk.proofs.Looked.{past_end}
 
 -- a loop over s stands at index at, with n packets behind it
@@ -67,8 +72,8 @@ module _ (s : List ℕ) where
           }
 
       -- the turn as code has it, with m for the next index that was found
-      pub turned : {m : ℕ} → m ≡ next_or_here s at → Turn s at n m
-      turned q = rw (simp (eq-eqb _ _ e) at q) (record { rises = moved.0; within = moved.1; going = goes_on_lem; place = place })
+      pub turned : {m : ℕ} → m ≡ next s at → Turn s at n m
+      turned q = rw q (record { rises = moved.0; within = moved.1; going = goes_on_lem; place = place })
 
     -- no packet more is read
     module _ (u : refusal (drop at s) ≡ 0 → ⊥) where
@@ -85,8 +90,8 @@ module _ (s : List ℕ) where
       here : end s ≡ at
       here = g.same_end ∙ no_end _
 
-      stopped : {k q : ℕ} → stop s ≡ k → stop_place s ≡ q → Stopped s at n k q
-      stopped e f = record {
+      stopped_by : {k q : ℕ} → stop s ≡ k → stop_place s ≡ q → Stopped s at n k q
+      stopped_by e f = record {
         end_here = here;
         all_counted = omega (arith, g.same_count, ap length (no_place (length s - n)));
         stop_here = e;
@@ -98,11 +103,21 @@ module _ (s : List ℕ) where
       unfolding stop stop_place
       at_refusal h number place =
           let more = ne_eqb at (length s) (λ e. omega arith) in
-          stopped (rw here (simp more (sym number))) (rw here (simp more (sym place)))
+          stopped_by (rw here (simp more (sym number))) (rw here (simp more (sym place)))
 
     pub at_end : length s ≤ at → Stopped s at n 0 0
     unfolding stop stop_place
     at_end h =
         let u : refusal (drop at s) ≡ 0 → ⊥ = λ e. omega (arith, past_end s at h) in
         let all = eq-eqb at (length s) (omega (arith, g.inside)) in
-        stopped u (rw (here u) (simp all)) (rw (here u) (simp all))
+        stopped_by u (rw (here u) (simp all)) (rw (here u) (simp all))
+
+  -- what the walk tells where it stops
+  module _ {at n : ℕ} where
+    pub walked_to_refusal : at < length s → (u : Unread) → Stopped s at n (number u.refusal) u.place → ◌≡◌ {A = Walked} (record { at = at; packets = n; stopped = Some u }) (walked s)
+    unfolding walked stopped
+    walked_to_refusal h u e = rw (e.end_here, e.all_counted, e.stop_here, e.place_here, of_its_number u.refusal) (simp (ne_eqb at (length s) (λ z. omega arith)))
+
+    pub walked_to_end : length s ≤ at → at ≤ length s → Stopped s at n 0 0 → ◌≡◌ {A = Walked} (record { at = at; packets = n; stopped = None }) (walked s)
+    unfolding walked stopped
+    walked_to_end h k e = rw (e.end_here, e.all_counted) (simp (eq-eqb at (length s) (omega arith)))

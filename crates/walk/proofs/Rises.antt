@@ -9,7 +9,10 @@ use borrow.Author.Tests.{eqb-true, eqb-false}
 use lib.Dec.{eqb}
 use lib.ListN.{length, drop}
 use Rattle.reading.specs.Reading.{refusal, place as place_in}
-use Rattle.walk.specs.Walk.{read_at, next, places_from, end_from, places, end, stop, stop_place}
+use Rattle.walk.specs.Walk.{read_at, next, places_from, end_from, places, end, stop, stop_place, stopped, number_stopped, place_stopped}
+use Rattle.std.specs.Prelude.{None, Some}
+use Rattle.refusal.specs.Refusal.{named}
+use Rattle.reading.proofs.Exactly.{named_refusal}
 use Rattle.walk.proofs.Looked.{past_end}
 use Rattle.walk.proofs.Going.{moves}
 
@@ -57,3 +60,14 @@ module _ (s : List ℕ) where
   pub stops_right : Stop (stop s) (stop_place s)
   unfolding stop stop_place
   stops_right = by_end (eqb (end s) (length s)) refl
+
+  -- and the same of the stop that the walk gives
+  by_name : (b : Bool) → eqb (end s) (length s) ≡ b
+      → (k q : ℕ) → cond b 0 (refusal (drop (end s) s)) ≡ k → cond b 0 (place_in (drop (end s) s)) ≡ q
+      → (number_stopped (cond b None (Some (record { refusal = named k; place = q }))) ≡ k) × (place_stopped (cond b None (Some (record { refusal = named k; place = q }))) ≡ q)
+  by_name true e k q n p = (n, p)
+  by_name false e k q n p = (rw (← n) (named_refusal (drop (end s) s) nowhere_else), refl)
+
+  pub stop_told : (number_stopped (stopped s) ≡ stop s) × (place_stopped (stopped s) ≡ stop_place s)
+  unfolding stopped stop stop_place
+  stop_told = by_name (eqb (end s) (length s)) refl (stop s) (stop_place s) refl refl

@@ -1,7 +1,9 @@
 -- A walk over a run of packets that lie one after another. It stops at the end or at the first refusal.
-use Rattle.std.specs.Prelude.{ℕ, zero, suc, ◌+◌, ◌≡◌, List, [], ◌∷◌, Bool, cond, length, drop, eqb}
+use Rattle.std.specs.Prelude.{ℕ, zero, suc, ◌+◌, ◌≡◌, List, [], ◌∷◌, Bool, cond, length, drop, eqb, Result, Ok, Err, Option, None, Some}
+use Rattle.refusal.specs.Refusal.{number, named}
 use Rattle.packet.specs.Told.{told}
 use Rattle.reading.specs.Reading.{refusal, place as place_in, reading, size}
+use Rattle.packet.specs.declared.Unread.{Unread}
 use Rattle.walk.specs.declared.Walked.{Walked}
 use Rattle.walk.specs.declared.Found.{Found}
 
@@ -17,11 +19,15 @@ next s at = at + size (drop at s)
 abbrev pub next_or_here : List ℕ → ℕ → ℕ
 next_or_here s at = cond (read_at s at) (next s at) at
 
--- what is found at index at: the packet as the reader tells it, its refusal, or 0, and where the next packet begins
-pub record Finds (s : List ℕ) (at : ℕ) (found : Found) : Type 0 where
-  pub tells : told found.packet ≡ reading (drop at s)
-  pub number : found.refused ≡ refusal (drop at s)
-  pub place : found.next ≡ next_or_here s at
+-- what is found at index at: the packet as the reader tells it, and where the next one begins; or the reader's refusal
+abbrev pub Finds : List ℕ → ℕ → Result Found Unread → Type 0
+Finds s at (Ok found) = (told (Ok found.packet) ≡ reading (drop at s)) × (found.next ≡ next s at)
+Finds s at (Err unread) = told (Err unread) ≡ reading (drop at s)
+
+-- where a walk goes on after what is found at index at
+abbrev pub goes_on : ℕ → Result Found Unread → ℕ
+goes_on at (Ok found) = found.next
+goes_on at (Err unread) = at
 
 -- from index at on, over at most `most` packets: where each packet begins, and where the last one ends
 unfoldable pub places_from : ℕ → List ℕ → ℕ → List ℕ
@@ -47,5 +53,18 @@ stop s = cond (eqb (end s) (length s)) 0 (refusal (drop (end s) s))
 unfoldable pub stop_place : List ℕ → ℕ
 stop_place s = cond (eqb (end s) (length s)) 0 (place_in (drop (end s) s))
 
+-- what is told of a stop: the number of its refusal and its place, or 0 and 0 at the end
+abbrev pub number_stopped : Option Unread → ℕ
+number_stopped None = 0
+number_stopped (Some u) = number u.refusal
+
+abbrev pub place_stopped : Option Unread → ℕ
+place_stopped None = 0
+place_stopped (Some u) = u.place
+
+-- both as one, by the refusal's name
+unfoldable pub stopped : List ℕ → Option Unread
+stopped s = cond (eqb (end s) (length s)) None (Some (record { refusal = named (stop s); place = stop_place s }))
+
 unfoldable pub walked : List ℕ → Walked
-walked s = record { at = end s; packets = length (places s); refused = stop s; place = stop_place s }
+walked s = record { at = end s; packets = length (places s); stopped = stopped s }

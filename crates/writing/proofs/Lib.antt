@@ -1,7 +1,6 @@
 pub mod SpaceFine
 pub mod SpaceAgain
 pub mod Header
-pub mod Chosen
 pub mod EncapFine
 pub mod EncapRead
 pub mod EncapWrite

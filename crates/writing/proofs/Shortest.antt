@@ -11,6 +11,7 @@ use lib.ListN.{length}
 use Rattle.octets.specs.Octets.{octet, be16, AreOctets}
 use Rattle.octets.proofs.Order.{either, neither}
 use Rattle.packet.specs.Encapsulation.{limit, extended, protocol, encap_header, user, extension, ccsds, size_for, encap_size, extends_another}
+use Rattle.std.specs.Prelude.{Ok}
 use Rattle.reading.specs.Reading.{reading, content, content_at}
 use Rattle.reading.specs.Causes.{Whole, space, encapsulation, EncapGood}
 use Rattle.packet.specs.declared.Packet.TheVariants.{Encapsulation}
@@ -79,10 +80,10 @@ module _ (s : List ℕ) (small : AreOctets s) (good : EncapGood s) where
 pub no_shorter : (h p u x : ℕ) (given : List ℕ) → Carries h p u x given → shortest p u (length given) ≤ h
 no_shorter h p u x given c =
     let s = c.packet in
-    let told = says (Encapsulation p u x h (length given)) s (sym c.reads) in
+    let told = says (Ok (Encapsulation p u x h (length given))) s (sym c.reads) in
     of_whole told ((exactly_whole s).0 told.0)
   where
-    of_whole : Says (Encapsulation p u x h (length given)) c.packet → Whole c.packet → shortest p u (length given) ≤ h
+    of_whole : Says (Ok (Encapsulation p u x h (length given))) c.packet → Whole c.packet → shortest p u (length given) ≤ h
     of_whole (r, v, p', u', x', h', n') (space good f) = absurd (v good.0.0.1)
     of_whole (r, v, p', u', x', h', n') (encapsulation good f) =
         let low = at_most c.packet c.are_octets good (kind c.packet) in

@@ -9,20 +9,14 @@ ghost use Rattle.writing.specs.Space.{space_told, space_after};
 ghost use Rattle.writing.specs.Encapsulation.{encap_told, encap_after};
 ghost use Rattle.writing.specs.Told.{told};
 
-use encapsulation::{put_header, shortest_header};
+use encapsulation::EncapsulationFields;
 use packet::SPACE_HEADER;
 use putting::put_octets;
-use space::put_space;
+use refusal::Refusal;
+use space::SpaceFields;
 
-// What writing gives: the octets written, or the refusal.
-#[derive(Clone, Copy)]
-pub enum Written {
-    Octets(usize),
-    Refused(u8),
-}
-
-// Writes a Space Packet, of type 0 (telemetry) or 1 (telecommand). Every parameter is wider than its field, so that no value is cut to it
-// unseen: over its width it is refused 8.
+// Writes a Space Packet, of type 0 (telemetry) or 1 (telecommand), and tells the octets written. Every parameter is wider than its field, so that no
+// value is cut to it unseen: over its width it is refused 8.
 pub fn write_space(
     packet_type: u32,
     secondary: u32,
@@ -31,50 +25,42 @@ pub fn write_space(
     count: u32,
     field: &[u8],
     out: &mut [u8],
-) -> Written
+) -> Result<usize, Refusal>
     ensures result_value { told result ≡ space_told packet_type secondary apid flags count (length field.now) (length out.old) }
     ensures out_after { out.new ≡ space_after packet_type secondary apid flags count field.now out.old }
 {
-    let refusal = space::refusal(
+    let fields = SpaceFields {
         packet_type,
         secondary,
         apid,
         flags,
         count,
-        field.len(),
-        out.len(),
-    );
-    if refusal != 0 {
-        return Written::Refused(refusal);
-    }
-    put_space(out, packet_type, secondary, apid, flags, count, field);
-    Written::Octets(SPACE_HEADER + field.len())
+    };
+    fields.check(field.len(), out.len())?;
+    fields.put(out, field);
+    Ok(SPACE_HEADER + field.len())
 }
 
-// Writes an Encapsulation Packet with the shortest header that can carry the fields. Every parameter is wider than its field, as above.
+// Writes an Encapsulation Packet with the shortest header that can carry the fields, and tells the octets written. Every parameter is wider than
+// its field, as above.
 pub fn write_encapsulation(
     protocol: u32,
     user: u32,
     extension: u32,
     content: &[u8],
     out: &mut [u8],
-) -> Written
+) -> Result<usize, Refusal>
     ensures result_value { told result ≡ encap_told protocol user extension (length content.now) (length out.old) }
     ensures out_after { out.new ≡ encap_after protocol user extension content.now out.old }
 {
-    let header = shortest_header(protocol, user, content.len());
-    let number = encapsulation::refusal(
+    let fields = EncapsulationFields {
         protocol,
         user,
         extension,
-        header,
-        content.len(),
-        out.len(),
-    );
-    if number != 0 {
-        return Written::Refused(number);
-    }
-    put_header(out, protocol, user, extension, header, content.len());
+    };
+    let header = fields.shortest_header(content.len());
+    fields.check(header, content.len(), out.len())?;
+    fields.put_header(out, header, content.len());
     put_octets(out, header, content);
-    Written::Octets(header + content.len())
+    Ok(header + content.len())
 }

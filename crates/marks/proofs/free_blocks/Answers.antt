@@ -1,12 +1,8 @@
--- One more block has its new mark.
-use Rattle.std.proofs.Common.{rules}
-use Rattle.marks.proofs.Turns.{replace_turn}
+-- The closure gives the new mark of each.
+use Rattle.std.proofs.Common.{rules, tests}
+use Rattle.marks.specs.Blocks.{freed_mark}
+use Rattle.marks.proofs.Made.{made}
 use Rattle.marks.proofs.free_blocks.Goals as goal
 
-pub loop-block-preserved : goal.loop-block-preserved
-loop-block-preserved c = (
-  search rules,
-  search rules,
-  search rules,
-  replace_turn _ c.loop-block.block _ c.loop-block.after _ c.loop-block.invariant.3 c.freed_mark.ensures,
-)
+pub returns : goal.returns
+returns c = made _ (freed_mark c.args.lane) c.args.marks _ (λ i r q k. search (rules, tests)) c.from_fn.result 64 (search rules) c.from_fn.ensures.items

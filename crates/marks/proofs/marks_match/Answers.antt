@@ -1,5 +1,5 @@
 -- The table tells which of these marks are seen, so what was counted in it is what a search finds.
-use Rattle.std.proofs.Common.{◌≡◌, ◌∙◌, ◌+◌, sym, rules, arith}
+use Rattle.std.proofs.Common.{◌≡◌, ◌∙◌, ◌+◌, sym, arith}
 use Rattle.marks.specs.Matching.{count, is_free, sum}
 use Rattle.marks.proofs.Looking.{none_held, count_at_most, lanes_decide, sum_decides}
 use Rattle.marks.proofs.Seeing.{seen_flags}
@@ -21,7 +21,6 @@ returns-then-in_use-eq0 c =
 
 pub each_holds-requires : goal.each_holds-requires
 each_holds-requires c = (
-  search rules,
   omega (arith, c.count_free.ensures, c.sum_held-in_use.ensures.0, c.if-count_free-in_use-ne-BLOCKS.false),
   seen_flags _ c.marks_seen-seen.result _ c.marks_seen-seen.ensures,
 )

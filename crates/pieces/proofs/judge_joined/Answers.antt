@@ -1,8 +1,7 @@
 -- The front of both (`fill_front`) decides (`headed`).
-use Rattle.std.proofs.Common.{◌≡◌, ◌++◌, ◌&&◌, ◌||◌, eqb, ltb, leb, take, sym, ap, ◌∙◌, length-append}
-use Rattle.reading.specs.Reading.{refusal}
-use Rattle.pieces.specs.Pieces.{longest, one_packet, unfinished, judged}
-use Rattle.pieces.specs.declared.Judged.{Judged}
+use Rattle.std.proofs.Common.{◌≡◌, ◌++◌, take, sym, ap, ◌∙◌, length-append}
+use Rattle.reading.specs.Reading.{header, size, refusal}
+use Rattle.pieces.specs.Pieces.{number_told, one_packet, unfinished, kind_of}
 use Rattle.pieces.proofs.Headers.{headed}
 use Rattle.pieces.proofs.judge_joined.Goals as goal
 
@@ -13,11 +12,12 @@ returns c =
     let l = c.args.lead.now in
     let s = p ++ l in
     let h = headed s in
-    let j : c.judge-j.result ≡ judged (take 8 s) = c.judge-j.ensures ∙ ap judged c.fill_front-end.ensures.front_after in
+    let first = c.with_sizes-first in
+    let front = first.ensures ∙ c.fill_front-end.ensures.front_after in
+    let read : number_told c.check.result ≡ refusal (take 8 s) = c.check.ensures ∙ ap refusal front in
+    let announced = first.result.size_announced ∙ ap size front in
     let octets = sym (length-append p l) in
-    let number : c.number_of_all.result ≡ refusal s = c.number_of_all.ensures ∙ (rw (j, octets) h.refusal_so) in
-    let header = ap (λ (z : Judged). z.header) j ∙ h.header_so in
-    let size = ap (λ (z : Judged). z.size) j ∙ h.size_so in
-    let whole = c.is_one_packet.ensures ∙ (λ i. eqb (number i) 0 && eqb (size i) (octets i) && leb (octets i) longest) in
-    let cut = c.is_unfinished.ensures ∙ (λ i. eqb (number i) 1 && (ltb (octets i) (header i) || leb (size i) longest)) in
-    λ i. record { whole = whole i; unfinished = cut i }
+    let number : number_told c.read_of_all-read.result ≡ refusal s = c.read_of_all-read.ensures ∙ (rw (read, announced, octets) h.refusal_so) in
+    let headers = first.result.header_announced ∙ ap header front ∙ h.header_so in
+    let all = announced ∙ h.size_so in
+    c.kind_of.ensures ∙ (λ i. kind_of (number i) (octets i) (headers i) (all i))

@@ -5,4 +5,4 @@ use Rattle.record.proofs.Front.{same_in_zeros}
 use Rattle.record.proofs.front_record.Goals as goal
 
 pub returns : goal.returns
-returns c = c.record_in.ensures ∙ ap record_in c.put_octets.ensures ∙ same_in_zeros c.args.s.now c.smaller-n.result c.smaller-n.ensures
+returns c = c.record_in.ensures ∙ ap record_in c.put_octets.ensures ∙ same_in_zeros c.args.s.now c.min-n.result c.min-n.ensures

@@ -1,17 +1,35 @@
--- The three ways out, each by its law.
-use Rattle.std.proofs.Common.{[], ◌∷◌, ap, ◌∙◌}
-use Rattle.record.proofs.Reading.{ragged, one_impossible, all_possible}
+-- What the search among the chunks finds is the first impossible record (`Chunks`); the three ways out, each by its law.
+use Rattle.std.proofs.Common.{sym, ◌∙◌, rules, tests, arith}
+use Rattle.std.proofs.lemmas.Iterator.{YieldsList-from_slice, IsFirst-from_position}
+use borrow.Author.Tests.{eqb-true, eqb-false}
+use Rattle.record.specs.Reading.{possible_at}
+use Rattle.record.proofs.Reading.{ragged}
+use Rattle.record.proofs.Chunks.{Possible, Impossible, some_found, none_found}
 use Rattle.record.proofs.read_record_file.Goals as goal
 
-pub returns-then-s-ne0 : goal.returns-then-s-ne0
-returns-then-s-ne0 c = ragged c.args.s.now c.if-s-ne0.true
+pub returns-then-not-is_empty : goal.returns-then-not-is_empty
+returns-then-not-is_empty c =
+    let e = sym c.is_empty.ensures ∙ c.if-not-is_empty.true in
+    ragged c.args.s.now (λ z. omega (arith, c.as_chunks.ensures.back_len, eqb-false _ _ e, z))
 
-pub returns-then-index-records : goal.returns-then-index-records
-returns-then-index-records c =
-    let e = c.possible_before-index.ensures in
-    ap (λ i. 25 ∷ i ∷ []) e ∙ one_impossible c.args.s.now c.if-s-ne0.false (rw (← e) c.if-index-records.true)
+pub returns-in-Some : goal.returns-in-Some
+unfolding possible_at
+returns-in-Some c =
+    let s = c.args.s.now in
+    let chunks = c.as_chunks.result.0.now in
+    let whole = sym c.as_chunks.ensures.back_len ∙ eqb-true _ _ (sym c.is_empty.ensures ∙ c.if-not-is_empty.false) in
+    let first =
+    IsFirst-from_position _ _ c.position.result Impossible Possible c.position.ensures.ran (YieldsList-from_slice chunks (search rules))
+    (λ x q k. search (rules, tests)) (λ x q k. search (rules, tests)) in
+    some_found s c.in-Some.index c.position.result chunks c.as_chunks.ensures.front c.as_chunks.ensures.front_len whole first c.in-Some.is
 
-pub returns-else-index-records : goal.returns-else-index-records
-returns-else-index-records c =
-    let e = c.possible_before-index.ensures in
-    all_possible c.args.s.now c.if-s-ne0.false (rw (← e) c.if-index-records.false)
+pub returns-in-None : goal.returns-in-None
+unfolding possible_at
+returns-in-None c =
+    let s = c.args.s.now in
+    let chunks = c.as_chunks.result.0.now in
+    let whole = sym c.as_chunks.ensures.back_len ∙ eqb-true _ _ (sym c.is_empty.ensures ∙ c.if-not-is_empty.false) in
+    let first =
+    IsFirst-from_position _ _ c.position.result Impossible Possible c.position.ensures.ran (YieldsList-from_slice chunks (search rules))
+    (λ x q k. search (rules, tests)) (λ x q k. search (rules, tests)) in
+    none_found s c.position.result chunks c.as_chunks.ensures.front c.as_chunks.ensures.front_len whole first c.in-None.is

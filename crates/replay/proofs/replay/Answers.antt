@@ -9,9 +9,6 @@ use Rattle.replaying.specs.declared.Chunk.{Chunk}
 use Rattle.replaying.proofs.Whole.{stays_possible, leads}
 use Rattle.replay.proofs.replay.Goals as goal
 
-pub loop-progress-init : goal.loop-progress-init
-loop-progress-init g c = rw c.begin-progress.ensures (omega arith, omega arith)
-
 pub loop-progress-smaller : goal.loop-progress-smaller
 loop-progress-smaller g c =
     let l = c.loop-progress in

@@ -1,35 +1,20 @@
--- The first octet decides.
-use Rattle.std.proofs.Common.{◌∙◌, sym}
-use borrow.Author.Tests.{eq-eqb, ne_eqb}
-use Rattle.runfile.specs.Calls.{call_in}
+-- The call that is begun is there where the octets have its size: the law `call_whole`.
+use Rattle.std.proofs.Common.{◌≡◌, ◌∙◌, ap, sym, rules, Bool, true, false, List, ℕ, length, leb, Option, Some, None, MatchOption}
+use Rattle.std.specs.Bool.{then_some}
+use Rattle.runfile.specs.Calls.{call_size}
+use Rattle.runfile.specs.declared.Call.{Call}
+use Rattle.runfile.proofs.Fits.{whole, call_whole}
 use Rattle.runfile.proofs.call_in.Goals as goal
 
-pub returns-then-kind-eq79 : goal.returns-then-kind-eq79
-unfolding call_in
-returns-then-kind-eq79 c = simp (eq-eqb _ 79 (sym c.octet_at-kind.ensures ∙ c.if-kind-eq79.true)) c.opening_in.ensures
+kept : (b : Bool) (call : Call) (s : List ℕ) → b ≡ leb (call_size call) (length s) → then_some b call ≡ whole s (Some call)
+kept true call s e = simp (sym e)
+kept false call s e = simp (sym e)
 
-pub returns-then-kind-eq80 : goal.returns-then-kind-eq80
-unfolding call_in
-returns-then-kind-eq80 c =
-    let e = c.octet_at-kind.ensures in
-    simp (eq-eqb _ 80 (sym e ∙ c.if-kind-eq80.true), ne_eqb _ 79 (λ z. c.if-kind-eq79.false (e ∙ z))) c.packet_in.ensures
-
-pub returns-then-kind-eq67 : goal.returns-then-kind-eq67
-unfolding call_in
-returns-then-kind-eq67 c =
-    let e = c.octet_at-kind.ensures in
-    simp (
-      eq-eqb _ 67 (sym e ∙ c.if-kind-eq67.true),
-      ne_eqb _ 79 (λ z. c.if-kind-eq79.false (e ∙ z)),
-      ne_eqb _ 80 (λ z. c.if-kind-eq80.false (e ∙ z)),
-    ) c.closing_in.ensures
+filtered : (s : List ℕ) (P : Call → Bool → Type 0) (each : (x : Call) (b : Bool) → P x b → b ≡ leb (call_size x) (length s)) (o r : Option Call)
+    → MatchOption o (r ≡ None) (λ x. (b : Bool) × P x b × (r ≡ then_some b x)) → r ≡ whole s o
+filtered s P each None r e = e
+filtered s P each (Some x) r (b, p, e) = e ∙ kept b x s (each x b p)
 
 pub returns : goal.returns
-unfolding call_in
 returns c =
-    let e = c.octet_at-kind.ensures in
-    simp (
-      ne_eqb _ 79 (λ z. c.if-kind-eq79.false (e ∙ z)),
-      ne_eqb _ 80 (λ z. c.if-kind-eq80.false (e ∙ z)),
-      ne_eqb _ 67 (λ z. c.if-kind-eq67.false (e ∙ z)),
-    )
+    filtered c.args.s.now _ (λ x b p. search rules) c.begun_in.result c.filter.result c.filter.ensures ∙ ap (whole c.args.s.now) c.begun_in.ensures ∙ sym (call_whole c.args.s.now)

@@ -1,9 +1,12 @@
 -- The part from `at` on is what is left after dropping `at` octets; past the end that is nothing. The rest is `Looked`.
-use Rattle.std.proofs.Common.{◌≡◌, ◌-◌, ap, ◌∙◌, length, drop, length-drop, take_all, arith}
-use Rattle.packet.specs.Told.{told}
+use Rattle.std.proofs.Common.{◌≡◌, List, ℕ, ◌-◌, ap, ◌∙◌, length, drop, take, length-drop, take_all, arith}
 use Rattle.reading.specs.Reading.{reading}
 use Rattle.walk.proofs.Looked.{finds_none, finds}
 use Rattle.walk.proofs.look_at.Goals as goal
+
+-- what is told of the part from index at to the end
+rest : (s : List ℕ) (at : ℕ) → reading (take (length s - at) (drop at s)) ≡ reading (drop at s)
+rest s at = ap reading (take_all (length s - at) (drop at s) (simp length-drop (omega arith)))
 
 pub returns-then-s-at : goal.returns-then-s-at
 returns-then-s-at c = finds_none c.args.s.now c.args.at c.if-s-at.true
@@ -12,6 +15,4 @@ pub returns : goal.returns
 returns c =
     let s = c.args.s.now in
     let at = c.args.at in
-    let tells : told c.read_packet-packet.result ≡ reading (drop at s) =
-    c.read_packet-packet.ensures ∙ ap reading (take_all (length s - at) (drop at s) (simp length-drop (omega arith))) in
-    finds s at c.read_packet-packet.result tells c.size_of.ensures c.number_of.ensures
+    finds s at c.in_ok-packet.packet (c.in_ok-packet.ensures ∙ rest s at) c.size_of.ensures

@@ -10,4 +10,4 @@ returns-then-l-eq0 c = simp (eq-eqb _ _ c.if-l-eq0.true)
 pub returns-else-l-eq0 : goal.returns-else-l-eq0
 unfolding missing_before
 returns-else-l-eq0 c =
-    simp (ne_eqb _ _ c.if-l-eq0.false) (omega (arith, c.wrapping_sub_u16-else-l-eq0.ensures, c.wrapping_sub_u16.ensures, c.ranges, c.well_formed))
+    simp (ne_eqb _ _ c.if-l-eq0.false) (omega arith)

@@ -10,7 +10,7 @@ returns-then-is_repeat c = simp (← c.is_repeat.ensures, c.if-is_repeat.true)
 
 pub returns-then-l-ge-MOST_PACKETS : goal.returns-then-l-ge-MOST_PACKETS
 unfolding accepted_plan
-returns-then-l-ge-MOST_PACKETS c = simp (← c.is_repeat.ensures, c.if-is_repeat.false, le-leb _ _ c.if-l-ge-MOST_PACKETS.true) c.refuse.ensures
+returns-then-l-ge-MOST_PACKETS c = simp (← c.is_repeat.ensures, c.if-is_repeat.false, le-leb _ _ c.if-l-ge-MOST_PACKETS.true)
 
 pub returns : goal.returns
 unfolding accepted_plan

@@ -6,7 +6,7 @@ use Rattle.grouping.proofs.grouping.plan_hold.Goals as goal
 
 pub returns-then-s-blocks_for : goal.returns-then-s-blocks_for
 unfolding hold_plan
-returns-then-s-blocks_for c = simp (← c.blocks_for.ensures, lt-ltb _ _ c.if-s-blocks_for.true) c.refuse.ensures
+returns-then-s-blocks_for c = simp (← c.blocks_for.ensures, lt-ltb _ _ c.if-s-blocks_for.true)
 
 pub overflow_cast-result : goal.overflow_cast-result
 unfolding blocks_for

@@ -5,7 +5,7 @@ use Rattle.grouping.proofs.grouping.plan_unit.Goals as goal
 
 pub returns-then-room-n : goal.returns-then-room-n
 unfolding unit_plan
-returns-then-room-n c = simp (lt-ltb _ _ c.if-room-n.true) c.refuse.ensures
+returns-then-room-n c = simp (lt-ltb _ _ c.if-room-n.true)
 
 pub returns : goal.returns
 unfolding unit_plan

@@ -2,10 +2,10 @@
 use Rattle.intake.specs.After.{released_from}
 use Rattle.intake.proofs.closing.release.Goals as goal
 
-pub returns-then-l : goal.returns-then-l
+pub returns-then-own : goal.returns-then-own
 unfolding released_from
-returns-then-l c = simp c.if-l.true c.free_blocks.ensures
+returns-then-own c = simp c.if-own.true c.free_blocks.ensures
 
-pub returns-else-l : goal.returns-else-l
+pub returns-else-own : goal.returns-else-own
 unfolding released_from
-returns-else-l c = simp c.if-l.false
+returns-else-own c = simp c.if-own.false

@@ -1,7 +1,7 @@
 -- The lane that comes of it is fine, so its tallies are possible and every sum fits.
-use Rattle.std.proofs.Common.{arith}
+use Rattle.std.proofs.Common.{arith, ◌∙◌}
 use Rattle.lane.proofs.Fine.{is_fine}
-use Rattle.lane.proofs.Tallied.{one_most}
+use Rattle.intake.proofs.Ones.{as_one}
 use Rattle.intake.proofs.taking.count_in.Goals as goal
 
 pub overflow_add-result : goal.overflow_add-result
@@ -11,10 +11,10 @@ pub overflow_add-result-2 : goal.overflow_add-result-2
 overflow_add-result-2 c = let t = (is_fine _ c.requires).tallies in omega (arith, t.packets)
 
 pub overflow_add-result-3 : goal.overflow_add-result-3
-overflow_add-result-3 c = let t = (is_fine _ c.requires).tallies in omega (arith, t.packets, t.missing)
-
-pub overflow_cast-result-2 : goal.overflow_cast-result-2
-overflow_cast-result-2 c = omega (arith, c.one_if.ensures, one_most c.args.a.given_up)
+overflow_add-result-3 c = let t = (is_fine _ c.requires).tallies in omega (arith, t.packets, t.missing, c.from.ensures)
 
 pub overflow_add-result-4 : goal.overflow_add-result-4
-overflow_add-result-4 c = let t = (is_fine _ c.requires).tallies in omega (arith, t.units, t.packets, c.one_if.ensures)
+overflow_add-result-4 c = let t = (is_fine _ c.requires).tallies in omega (arith, t.units, t.packets, c.from-2.ensures, as_one c.args.a.given_up)
+
+pub returns : goal.returns
+returns c = rw (c.from.ensures, c.from-2.ensures ∙ as_one c.args.a.given_up)

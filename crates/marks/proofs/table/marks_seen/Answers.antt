@@ -5,14 +5,13 @@ use Rattle.marks.specs.Blocks.{free}
 use Rattle.marks.proofs.Seeing.{seen_begins, seen_turn}
 use Rattle.marks.proofs.table.marks_seen.Goals as goal
 
-pub loop-block-init : goal.loop-block-init
-loop-block-init c = (search rules, refl, seen_begins c.args.marks.now (free + 1) (search rules))
+pub loop-mark-init : goal.loop-mark-init
+loop-mark-init c = (refl, seen_begins c.args.marks.now (free + 1) (search rules))
 
-pub loop-block-preserved : goal.loop-block-preserved
-loop-block-preserved c =
-    let loop = c.loop-block in (
-      search rules,
-      simp length-set loop.invariant.1,
-      seen_turn c.args.marks.now loop.seen loop.block c.smaller.result (search rules)
-          (search rules) (omega (arith, c.smaller.ensures, c.wide-in-loop-block.ensures, c.wide.ensures)) loop.invariant.2,
+pub loop-mark-preserved : goal.loop-mark-preserved
+loop-mark-preserved c =
+    let loop = c.loop-mark in (
+      simp length-set loop.invariant.0,
+      seen_turn c.args.marks.now loop.seen loop.mark-index c.from.result (search rules)
+          (search rules) (omega (arith, c.from.ensures, c.min.ensures)) loop.invariant.1,
     )

@@ -1,14 +1,21 @@
--- A turn adds what one lane holds; at the end none is left.
-use Rattle.std.proofs.Common.{rules, arith}
-use Rattle.marks.proofs.Looking.{sum_turn, sum_end}
+-- Eight numbers of 16 bits.
+use Rattle.std.proofs.Common.{◌≡◌, ◌∙◌, sym, rules, tests, arith}
+use Rattle.std.proofs.lemmas.Iterator.{YieldsList-from_slice, YieldsList-from_map}
+use Rattle.std.proofs.lemmas.Iterator.Consumers.{sum_by_from_yields_List, fits_by_from_yields_list}
+use Rattle.marks.specs.Matching.{sum}
+use Rattle.marks.proofs.Looking.{summed, sum_at_most}
 use Rattle.marks.proofs.table.sum_held.Goals as goal
 
-pub loop-lane-preserved : goal.loop-lane-preserved
-loop-lane-preserved c =
-    let few = c.type_inv.held c.loop-lane.lane in
-    let is = c.wide-n.ensures in
-    let turn = sum_turn c.args.held.now c.loop-lane.lane (search rules) in
-    (omega arith, omega arith, omega arith)
+pub sum-requires-clause-fits : goal.sum-requires-clause-fits
+sum-requires-clause-fits c =
+    fits_by_from_yields_list (λ n. n) c.args.held.now _ _
+    (YieldsList-from_map _ (λ n. n) (YieldsList-from_slice c.args.held.now (cc)) c.map.ensures.closure (λ x r q k. search (rules, tests)))
+    (omega (arith, summed c.args.held.now, sum_at_most c.args.held.now c.fits-held))
 
 pub returns : goal.returns
-returns c = let none = sum_end c.args.held.now c.loop-lane.lane (search rules) in (omega arith, omega arith)
+returns c =
+    let is : c.sum.result ≡ sum c.args.held.now =
+    sum_by_from_yields_List (λ n. n) c.args.held.now _ _ c.sum.ensures.ran
+    (YieldsList-from_map _ (λ n. n) (YieldsList-from_slice c.args.held.now (cc)) c.map.ensures.closure (λ x r q k. search (rules, tests)))
+    ∙ sym (summed c.args.held.now) in
+    (is, omega (arith, sum_at_most c.args.held.now c.fits-held))

@@ -6,4 +6,4 @@ use Rattle.pool.proofs.table.blocks_searched.Goals as goal
 
 pub overflow_cast-table : goal.overflow_cast-table
 overflow_cast-table c =
-    omega (arith, c.find_from.ensures, at_most c.args.marks.now (mark c.args.lane c.loop-place.place), c.requires.0)
+    omega (arith, c.find_from.ensures, at_most c.args.marks.now (mark c.from.result c.loop-place.place), c.told-marks)

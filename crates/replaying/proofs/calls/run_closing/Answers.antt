@@ -6,10 +6,10 @@ pub returns-clause-value : goal.returns-clause-value
 returns-clause-value c =
     let a = c.args in
     let told = c.close_lane-changed.ensures in
-    (closing_done a.state a.lane a.space a.s.now a.pool.now a.out.now c.smaller-room.result c.smaller-room.ensures told.value told.out_after).0
+    (closing_done a.state a.lane a.space a.s.now a.pool.now a.out.now c.min-room.result c.min-room.ensures told.value told.out_after).0
 
 pub returns-clause-out_after : goal.returns-clause-out_after
 returns-clause-out_after c =
     let a = c.args in
     let told = c.close_lane-changed.ensures in
-    (closing_done a.state a.lane a.space a.s.now a.pool.now a.out.now c.smaller-room.result c.smaller-room.ensures told.value told.out_after).1
+    (closing_done a.state a.lane a.space a.s.now a.pool.now a.out.now c.min-room.result c.min-room.ensures told.value told.out_after).1
