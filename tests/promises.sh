@@ -48,18 +48,22 @@ c_calls_the_libraries() {
     return "$bad"
 }
 
+# snake WORD, in awk: a type's name as a part of a function's, as u8_from_refusal.
+snake='function snake(word) { while (match(word, /[a-z0-9][A-Z]/)) word = substr(word, 1, RSTART) "_" substr(word, RSTART + 1); return tolower(word) }'
+
 # arms: crate::function for each arm of `named` and `function`, over which demand 1 is stated. An arm counts only if it has its signature and its contract from one
 # function's module, its name and its code from the same function's, and that is the function that the arm is named after; any other is printed as it is, so that two
 # swapped arms, or one that is there twice, can't hide a function that is left out. Equal results are equal values or, of a part of a slice, the same place and octets:
 # an arm could else call any two alike. A line that goes on is joined to the one before.
 arms() {
-    sed -E -e ':more' -e '$!N; s/\n +/ /; t more' -e 'P; D' crates/entries/specs/Functions.antt | awk '
+    sed -E -e ':more' -e '$!N; s/\n +/ /; t more' -e 'P; D' crates/entries/specs/Functions.antt | awk "$snake"'
         BEGIN { alike = "alike = λ κs r q. (r.ref_ptr ≡ q.ref_ptr) × (r.now ≡ q.now) }" }
         /^use .* as [^ ]+$/ {
             module = $2
             if ($NF in from) print "brought in twice: " $NF
             is_code = sub(/\.Symbol$/, "", module)
             if (sub(/^Rattle\./, "", module) && (is_code ? sub(/\.proofs\./, "::", module) : sub(/\.specs\.contracts\./, "::", module))) {
+                if (match(module, /[A-Za-z0-9]+From[A-Za-z0-9]+\.from$/)) module = substr(module, 1, RSTART - 1) snake(substr(module, RSTART, RLENGTH - 5))
                 sub(/::.*\./, "::", module); from[$NF] = (is_code ? "code of " : "") module
             } else from[$NF] = "no function"
         }
@@ -75,8 +79,27 @@ arms() {
         }'
 }
 
-# Demand 1 is stated of each public function, once.
-every_function_is_in_demand_1() { diff <(public_functions | sort -u) <(arms | sort); }
+# conversions: crate::to_from_from for each `From`, by the names of its types, but where one of these is a private type of the crate. It is no public function by name,
+# but who has the types has it. A `TryFrom` would be printed as what no arm is named.
+conversions() {
+    awk "$snake"'
+        /^ *impl(<[^>]*>)? ([A-Za-z0-9_]+::)*(Try)?From</ {
+            head = $0
+            while (head !~ /\{/ && (getline more) > 0) head = head " " more
+            crate = FILENAME; sub(/^crates\//, "", crate); sub(/\/.*/, "", crate)
+            how = head ~ /TryFrom</ ? "_try_from_" : "_from_"
+            sub(/^ *impl(<[^>]*>)? ([A-Za-z0-9_]+::)*(Try)?From</, "", head); sub(/ *(where .*)?\{.*/, "", head)
+            at = index(head, "> for "); from = substr(head, 1, at - 1); to = substr(head, at + 6)
+            sub(/<.*/, "", to); sub(/<.*/, "", from)
+            print crate "\t" from "\t" to "\t" crate "::" snake(to) how snake(from)
+        }' $(sources) |
+        while IFS=$'\t' read -r crate from to name; do
+            grep -qE "^ *(pub\([a-z]+\) )?(struct|enum) (${from//[^A-Za-z0-9_]/}|${to//[^A-Za-z0-9_]/})\b" "crates/$crate/src/"*.rt || echo "$name"
+        done
+}
+
+# Demand 1 is stated of each public function and each conversion between public types, once.
+every_function_is_in_demand_1() { diff <({ public_functions | sort -u; conversions; } | sort) <(arms | sort); }
 
 # What an entry promises (`entry`) and its code (`named`) are given for the same names.
 every_entry_has_its_code() {
@@ -250,7 +273,7 @@ stands_at_a_law() {
 # operators WORD EDIT: those in the lines of an edit of code that begin with WORD, in their order; text in quotes has none, and the bars of a closure and the brackets around type arguments are none.
 operators() {
     grep -q '^file: src/' "$2" || return
-    grep "^$1" "$2" | sed -E "s/^$1//; s/b?\"[^\"]*\"|b?'[^']*'//g; s/=>|->//g; s/\|[a-z_]+\|//g; s/::<[^<>]*>//g" | grep -oE '<=|>=|==|!=|&&|\|\||[<>!+*/%|]|&( |mut )|-' | tr '\n' ' '
+    grep "^$1" "$2" | sed -E "s/^$1//; s/b?\"[^\"]*\"|b?'[^']*'//g; s/=>|->//g; s/\|[a-z_]+\|//g; s/::<[^<>]*>//g" | grep -oE '<=|>=|==|!=|&&|\|\||[<>!+*/%|^]|&( |mut )|-' | tr '\n' ' '
 }
 
 # An edit of code changes no operator: the proof of `a < b` does not fit `a <= b` either where that would be right.

@@ -39,7 +39,7 @@ def name(symbol):
 
 CALLED = {it: called(it) for it in LIBRARIES}
 TOLD = {it: [] for it in LIBRARIES}
-for library, function in re.findall(r"use Rattle\.(\w+)\.specs\.contracts\.(\w+) as \w+", FUNCTIONS):
+for library, function in re.findall(r"use Rattle\.(\w+)\.specs\.contracts\.([\w.]+) as \w+", FUNCTIONS):
     TOLD[library].append(function)
 for symbols in CALLED.values():
     for library, function in filter(None, map(of_library, symbols)):
@@ -94,7 +94,7 @@ def built():
         lines += [f'  {library}_calls : the_{library}.Calls W', f'  {library}_calls ='] + [f'      ({it},' for it in facts]
         lines[-1] += ' tt' + ')' * len(facts)
         lines.append('')
-    of = {alias: (library, function) for library, function, alias in re.findall(r"use Rattle\.(\w+)\.specs\.contracts\.(\w+) as (\w+)", FUNCTIONS)}
+    of = {alias: (library, function) for library, function, alias in re.findall(r"use Rattle\.(\w+)\.specs\.contracts\.([\w.]+) as (\w+)", FUNCTIONS)}
     arms = lambda head: [(at, has(*of[alias])) for at, alias in re.findall(rf"^{head}(\w+) =\s+(?:valued |record {{ ended = )(\w+)", FUNCTIONS, re.M)]
     lines.append('  of_entry : (n : Name) → HasT (in_world W) true (function (the_entry n)).code')
     lines += [f'  of_entry name.{at} = {fact}' for at, fact in arms(r'named name\.')]

@@ -36,10 +36,12 @@ use Rattle.branmuslin.specs.Told.{number_of, left_of}
 use Rattle.branmuslin.specs.Lent.{packet_numbers, numbers_of, place_after, record_numbers_after, records_after, index_after}
 
 -- the data lies after the header, and has as many octets as the reader told
-data_part : (p : Packet) (s : List ℕ) → Says (Ok p) s → (header_of p ≡ content_at s) × (size_of p - header_of p ≡ length (content s))
+data_part : (p : Packet) (s : List ℕ) → Says (Ok p) s → (header_of (Ok p) ≡ content_at s) × (size_of (Ok p) - header_of (Ok p) ≡ length (content s))
 data_part p s says =
-    let (least, most, same, at) = part_told p s says in
-    (at, sym (length-take-le (size_of p - header_of p) (drop (header_of p) s) (rw (length-drop (header_of p) s) (omega (arith, least, most)))) ∙ ap length same)
+    let (least, most, same, at) = part_told (Ok p) s says in
+    let from = header_of (Ok p) in
+    let n = size_of (Ok p) - from in
+    (at, sym (length-take-le n (drop from s) (rw (length-drop from s) (omega (arith, least, most)))) ∙ ap length same)
 
 module _ (s old : List ℕ) (at : ℕ) where
   numbers_so : (p : Packet) → Says (Ok p) s → numbers_of p ≡ packet_numbers s

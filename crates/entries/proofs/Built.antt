@@ -288,33 +288,30 @@ module _ (W : World) (b : Built W) where
     (
       b.OptionPartialEq_eq_code,
       (
-        b.UsizePartialEq_eq_code,
+        b.ResultPartialEq_eq_code,
         (
-          b.AnyFrom_from_code,
+          b.UsizePartialEq_eq_code,
           (
             b.OptionDebug_fmt_code,
             (
-              b.Formatter_derived_fields2_code,
+              b.ResultDebug_fmt_code,
               (
-                b.Formatter_derived_fields3_code,
+                b.Formatter_derived_fields2_code,
                 (
-                  b.UsizeDebug_fmt_code,
+                  b.Formatter_derived_fields3_code,
                   (
-                    b.ResultFromResidualErrResidual_from_residual_code,
+                    b.UsizeDebug_fmt_code,
                     (
-                      b.ResultTry_branch_code,
+                      the_packet.has_PacketDebug_fmt W b.packet_table packet_calls,
                       (
-                        the_packet.has_PacketDebug_fmt W b.packet_table packet_calls,
+                        the_packet.has_PacketPartialEq_eq W b.packet_table packet_calls,
                         (
-                          the_packet.has_PacketPartialEq_eq W b.packet_table packet_calls,
+                          the_packet.has_UnreadDebug_fmt W b.packet_table packet_calls,
                           (
-                            the_packet.has_UnreadDebug_fmt W b.packet_table packet_calls,
+                            the_packet.has_UnreadPartialEq_eq W b.packet_table packet_calls,
                             (
-                              the_packet.has_UnreadPartialEq_eq W b.packet_table packet_calls,
-                              (
-                                the_packet.has_size_of W b.packet_table packet_calls,
-                                (the_reading.has_read_packet W b.reading_table reading_calls, tt),
-                              ),
+                              the_packet.has_size_of W b.packet_table packet_calls,
+                              (the_reading.has_read_packet W b.reading_table reading_calls, tt),
                             ),
                           ),
                         ),
@@ -916,6 +913,12 @@ module _ (W : World) (b : Built W) where
   has public.call_in = the_runfile.has_call_in W b.runfile_table runfile_calls
   has public.replay_some = the_replaying.has_replay_some W b.replaying_table replaying_calls
   has public.tell_next = the_deframing.has_tell_next W b.deframing_table deframing_calls
+  has public.u8_from_refusal = the_refusal.has_U8FromRefusal_from W b.refusal_table refusal_calls
+  has public.refusal_from_file_fault = the_record.has_RefusalFromFileFault_from W b.record_table record_calls
+  has public.refused_from_unread = the_grouping.has_RefusedFromUnread_from W b.grouping_table grouping_calls
+  has public.refused_from_refusal = the_grouping.has_RefusedFromRefusal_from W b.grouping_table grouping_calls
+  has public.answer_from_step = the_intake.has_AnswerFromStep_from W b.intake_table intake_calls
+  has public.numbered_from_answered = the_lanes.has_NumberedFromAnswered_from W b.lanes_table lanes_calls
 
   pub there : (p : Public) → Wired (tie_t (in_world W)) (function p).code
   there p = has-wired_t (in_world W) (tie_t (in_world W)) (tie_t-follows (in_world W)) (tie_t-threads (in_world W)) (function p).code (has p)

@@ -1,12 +1,12 @@
 -- Readers, walk, writers, records, the state and the listing meet demand 1: what each tells begins with the number of its order, and fixes the answer.
 use Prim.{Unit}
 use Prim.Native.Nat.{ℕ, ◌+◌, ◌-◌, ◌%◌}
-use mathlib.Core.Path.{◌≡◌, refl, sym, ap, ◌∙◌}
+use mathlib.Core.Path.{◌≡◌, refl, ap, ◌∙◌}
 use mathlib.Core.Logic.{⊎_elim}
 use mathlib.Core.Bool.{Bool, true, false, cond, not}
 use mathlib.Core.List.{List, [], ◌∷◌}
 use native.Mathlib.Omega.{arith}
-use borrow.Author.Tests.{ne_eqb, eqb-true, eqb-false, le-ltb, lt-ltb, leb-true, leb-false}
+use borrow.Author.Tests.{eqb-true, eqb-false, le-ltb, lt-ltb, leb-true, leb-false}
 use lib.Dec.{eqb, ltb, leb}
 use lib.ListN.{length, drop, get_or}
 use Rattle.std.specs.Prelude.{Result, Ok, Err, Option, None, Some}
@@ -24,14 +24,14 @@ use Rattle.packet.specs.Told as PacketTold
 use Rattle.refusal.proofs.Named.{some}
 use Rattle.packet.specs.declared.Packet.{Packet}
 use Rattle.packet.specs.declared.Unread.{Unread}
-use Rattle.packet.proofs.Answers.{packet_fixed, unread_fixed, told_fixes}
-use Rattle.reading.proofs.Answers.{says, read_told}
+use Rattle.packet.proofs.Answers.{unread_fixed, told_fixes}
+use Rattle.reading.proofs.Answers.{says, number_told}
 use Rattle.reading.specs.Places.{fault_at}
 use Rattle.reading.specs.Reading.{is_space, refusal, reading, fields, content, content_at}
 use Rattle.reading.proofs.Exactly.{verdict, refused, accepted, name_told, in_order}
 use Rattle.walk.specs.declared.Found.{Found}
 use Rattle.walk.specs.declared.Walked.{Walked}
-use Rattle.walk.specs.Walk.{Finds, next, end, stop, walked, number_stopped, place_stopped}
+use Rattle.walk.specs.Walk.{Finds, next_or_here, end, stop, walked, number_stopped, place_stopped}
 use Rattle.walk.proofs.Rises.{stop_told}
 use Rattle.packet.specs.Space.{space_header}
 use Rattle.writing.specs.Space.{space_told}
@@ -81,36 +81,21 @@ gives_data =
 
 -- what is found: the promise in the entry's words, and the other way round
 module _ (s : List ℕ) (at : ℕ) where
-  pub found_told : (r : Result Found Unread) → Finds s at r → told_found r ≡ found_tells s at
-  found_told (Ok found) (tells, place) =
-      let z = read_told found.packet (drop at s) (says (Ok found.packet) (drop at s) tells) in
-      rw z (λ i. 0 ∷ place i ∷ tells i)
-  found_told (Err u) tells =
-      let w = says (Err u) (drop at s) tells in
-      rw w.0 (simp (ne_eqb (number u.refusal) 0 (λ z. omega (arith, some u.refusal, z))) (λ i. number u.refusal ∷ tells i))
+  pub found_told : (f : Found) → Finds s at f → told_found f ≡ found_tells s at
+  found_told f found = let n = number_told f.read (drop at s) (says f.read (drop at s) found.tells) in λ i. n i ∷ found.place i ∷ found.tells i
 
-  pub found_again : (r : Result Found Unread) → told_found r ≡ found_tells s at → Finds s at r
-  found_again (Ok found) e =
-      let z : refusal (drop at s) ≡ 0 = sym (ap leading e) in
-      let same : told_found (Ok found) ≡ 0 ∷ next s at ∷ reading (drop at s) = rw z at e in
-      (ap (drop 2) same, ap (λ l. get_or l 1 0) same)
-  found_again (Err u) e =
-      let z : refusal (drop at s) ≡ number u.refusal = sym (ap leading e) in
-      ap (drop 1) (simp (ne_eqb (number u.refusal) 0 (λ z. omega (arith, some u.refusal, z))) at (rw z at e))
+  pub found_again : (f : Found) → told_found f ≡ found_tells s at → Finds s at f
+  found_again f e = record { tells = ap (drop 2) e; place = ap (λ l. get_or l 1 0) e }
 
   -- every place has an answer
-  found_answer : (r : Result Packet Unread) × (PacketTold.told r ≡ reading (drop at s)) → (a : Result Found Unread) × (told_found a ≡ found_tells s at)
-  found_answer (Ok p, e) = (Ok (record { packet = p; next = next s at }), found_told (Ok (record { packet = p; next = next s at })) (e, refl))
-  found_answer (Err u, e) = (Err u, found_told (Err u) e)
+  found_answer : (r : Result Packet Unread) × (PacketTold.told r ≡ reading (drop at s)) → (a : Found) × (told_found a ≡ found_tells s at)
+  found_answer (r, e) = let a : Found = record { read = r; next = next_or_here s at } in (a, found_told a (record { tells = e; place = refl }))
 
-found_fixes : (a b : Result Found Unread) → told_found a ≡ told_found b → a ≡ b
-found_fixes (Ok a) (Ok b) same =
-    let p = packet_fixed a.packet b.packet (ap (drop 3) same) in
+found_fixes : (a b : Found) → told_found a ≡ told_found b → a ≡ b
+found_fixes a b same =
+    let r = told_fixes a.read b.read (ap (drop 2) same) in
     let n = ap (λ l. get_or l 1 0) same in
-    ap Ok (λ i. record { packet = p i; next = n i })
-found_fixes (Err u) (Err v) same = ap Err (unread_fixed u v (ap (drop 1) same))
-found_fixes (Ok a) (Err v) same = absurd (omega (arith, ap leading same, some v.refusal))
-found_fixes (Err u) (Ok b) same = absurd (omega (arith, ap leading same, some u.refusal))
+    λ i. record { read = r i; next = n i }
 
 pub looks_at : Asked look_at_entry
 looks_at =

@@ -75,6 +75,12 @@ use Rattle.runfile.proofs.begin.Met as BeginRun
 use Rattle.runfile.proofs.call_in.Met as CallIn
 use Rattle.replaying.proofs.replay_some.Met as ReplaySome
 use Rattle.deframing.proofs.tell_next.Met as TellNext
+use Rattle.refusal.proofs.U8FromRefusal.from.Met as U8FromRefusal
+use Rattle.record.proofs.RefusalFromFileFault.from.Met as RefusalFromFileFault
+use Rattle.grouping.proofs.RefusedFromUnread.from.Met as RefusedFromUnread
+use Rattle.grouping.proofs.RefusedFromRefusal.from.Met as RefusedFromRefusal
+use Rattle.intake.proofs.AnswerFromStep.from.Met as AnswerFromStep
+use Rattle.lanes.proofs.NumberedFromAnswered.from.Met as NumberedFromAnswered
 use Rattle.entries.specs.Contract.{Function}
 use Rattle.entries.specs.Exported as name
 use Rattle.entries.specs.Exported.{Name}
@@ -160,3 +166,9 @@ honours public.begin M = BeginRun.met
 honours public.call_in M = CallIn.met
 honours public.replay_some M = ReplaySome.met
 honours public.tell_next M = TellNext.met
+honours public.u8_from_refusal M = U8FromRefusal.met
+honours public.refusal_from_file_fault M = RefusalFromFileFault.met
+honours public.refused_from_unread M = RefusedFromUnread.met
+honours public.refused_from_refusal M = RefusedFromRefusal.met
+honours public.answer_from_step M = AnswerFromStep.met
+honours public.numbered_from_answered M = NumberedFromAnswered.met

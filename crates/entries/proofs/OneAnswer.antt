@@ -11,6 +11,7 @@ use Rattle.entries.specs.Exported.{Name, entry}
 use Rattle.entries.specs.Functions as public
 use Rattle.entries.specs.Functions.{Public, the_entry, function}
 use Rattle.entries.specs.Views.{view, Permitted}
+use Rattle.refusal.proofs.Named.{alike}
 use Rattle.entries.proofs.Plain.{two, five}
 use Rattle.entries.proofs.Refusals.{one_permitted}
 use Rattle.entries.proofs.LaneEntries.{same_numbered}
@@ -138,3 +139,9 @@ one_answers public.tell_next =
       equals e.0 f.0,
       λ i. (tt, (tt, (equals e.1.0 f.1.0 i, (equals e.1.1.0 f.1.1.0 i, (equals e.1.1.1.0 f.1.1.1.0 i, v.1.1.1.1.1))))),
     ))
+one_answers public.u8_from_refusal = by_value (λ κs a h M 𝓤 𝓛 mem run. refl) (λ κs a v w. refl)
+one_answers public.refusal_from_file_fault = fixed (λ κs a h M 𝓤 𝓛 mem run. refl) (λ κs a h r q v w e f. (alike r q (equals e f), refl))
+one_answers public.refused_from_unread = by_value (λ κs a h M 𝓤 𝓛 mem run. refl) (λ κs a v w. refl)
+one_answers public.refused_from_refusal = by_value (λ κs a h M 𝓤 𝓛 mem run. refl) (λ κs a v w. refl)
+one_answers public.answer_from_step = by_value (λ κs a h M 𝓤 𝓛 mem run. refl) (λ κs a v w. refl)
+one_answers public.numbered_from_answered = by_value (λ κs a h M 𝓤 𝓛 mem run. refl) (λ κs a v w. refl)

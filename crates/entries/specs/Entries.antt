@@ -1,17 +1,15 @@
 -- The public entries: readers, walk, writers, records, the state, opening, packet, closing, listing, frames. Each has the promise that its contract has, to which
 -- `EachEntry` (Demand1.antt) ties it. A state has eight lanes, so a number over 7 is a closed lane's (`lane_at`), and one test for 11 serves a packet and a closing.
-use Rattle.std.specs.Prelude.{ℕ, ◌+◌, List, [], ◌∷◌, Bool, cond, length, drop, eqb, ltb, Result, Ok, Err}
+use Rattle.std.specs.Prelude.{ℕ, ◌+◌, List, [], ◌∷◌, Bool, length, drop, eqb, ltb}
 use Prim.{Unit}
 use Rattle.octets.specs.Octets.{one}
 use Rattle.octets.specs.Order.{Test, ◌gives◌}
 use Rattle.octets.specs.Output.{leading, output_after}
-use Rattle.refusal.specs.Refusal.{number}
 use Rattle.packet.specs.Told as PacketTold
-use Rattle.packet.specs.declared.Unread.{Unread}
 use Rattle.reading.specs.Reading.{reading_tests, reading, refusal, content, content_at}
 use Rattle.walk.specs.declared.Found.{Found}
 use Rattle.walk.specs.declared.Walked.{Walked}
-use Rattle.walk.specs.Walk.{read_at, next, end, walked, number_stopped, place_stopped}
+use Rattle.walk.specs.Walk.{next_or_here, end, walked, number_stopped, place_stopped}
 use Rattle.writing.specs.Space.{space_octets, space_tests, space_told}
 use Rattle.writing.specs.Encapsulation.{encap_octets, encap_tests, encap_told}
 use Rattle.writing.specs.Told as WritingTold
@@ -69,17 +67,16 @@ abbrev pub data_of_entry : Entry
 data_of_entry =
     reads (λ (p : Part). 0 ∷ p.block ∷ p.at ∷ p.octets) (λ (s : Part). []) (λ s. 0 ∷ s.block ∷ (s.at + content_at s.octets) ∷ content s.octets)
 
--- what is found at index at of some octets: the refusal; of a packet, where the next one begins; and what reading tells
+-- what is found at index at of some octets: the refusal, where the next packet begins, and what reading tells
 pub record Place : Type 0 where
   pub octets : List ℕ
   pub at : ℕ
 
-abbrev pub told_found : Result Found Unread → List ℕ
-told_found (Ok found) = 0 ∷ found.next ∷ PacketTold.told (Ok found.packet)
-told_found (Err u) = number u.refusal ∷ PacketTold.told (Err u)
+abbrev pub told_found : Found → List ℕ
+told_found a = PacketTold.number_of a.read ∷ a.next ∷ PacketTold.told a.read
 
 abbrev pub found_tells : List ℕ → ℕ → List ℕ
-found_tells s at = refusal (drop at s) ∷ cond (read_at s at) (next s at ∷ reading (drop at s)) (reading (drop at s))
+found_tells s at = refusal (drop at s) ∷ next_or_here s at ∷ reading (drop at s)
 
 abbrev pub look_at_entry : Entry
 look_at_entry = reads told_found (λ (g : Place). reading_tests (drop g.at g.octets)) (λ g. found_tells g.octets g.at)

@@ -138,6 +138,18 @@ use Rattle.replaying.specs.contracts.replay_some as ReplaySome
 use Rattle.replaying.proofs.replay_some.Symbol as ReplaySomeCode
 use Rattle.deframing.specs.contracts.tell_next as TellNext
 use Rattle.deframing.proofs.tell_next.Symbol as TellNextCode
+use Rattle.refusal.specs.contracts.U8FromRefusal.from as U8FromRefusal
+use Rattle.refusal.proofs.U8FromRefusal.from.Symbol as U8FromRefusalCode
+use Rattle.record.specs.contracts.RefusalFromFileFault.from as RefusalFromFileFault
+use Rattle.record.proofs.RefusalFromFileFault.from.Symbol as RefusalFromFileFaultCode
+use Rattle.grouping.specs.contracts.RefusedFromUnread.from as RefusedFromUnread
+use Rattle.grouping.proofs.RefusedFromUnread.from.Symbol as RefusedFromUnreadCode
+use Rattle.grouping.specs.contracts.RefusedFromRefusal.from as RefusedFromRefusal
+use Rattle.grouping.proofs.RefusedFromRefusal.from.Symbol as RefusedFromRefusalCode
+use Rattle.intake.specs.contracts.AnswerFromStep.from as AnswerFromStep
+use Rattle.intake.proofs.AnswerFromStep.from.Symbol as AnswerFromStepCode
+use Rattle.lanes.specs.contracts.NumberedFromAnswered.from as NumberedFromAnswered
+use Rattle.lanes.proofs.NumberedFromAnswered.from.Symbol as NumberedFromAnsweredCode
 use Rattle.entries.specs.Contract.{Function, valued}
 use Rattle.entries.specs.Exported as name
 use Rattle.entries.specs.Exported.{Name}
@@ -156,6 +168,7 @@ pub data Public : Type 0 where
   written : Public
   is_ready put_line put_bad put_last : Public
   adler32 begin call_in replay_some tell_next : Public
+  u8_from_refusal refusal_from_file_fault refused_from_unread refused_from_refusal answer_from_step numbered_from_answered : Public
 
 -- `data_of` and `written` give back a part of a slice that they were lent: where it lies, and its octets
 abbrev named : Name → Function
@@ -237,3 +250,9 @@ function begin = valued BeginRun.ended (λ M 𝓤. BeginRun.clauses) BeginRunCod
 function call_in = valued CallIn.ended (λ M 𝓤. CallIn.clauses) CallInCode.name CallInCode.code
 function replay_some = valued ReplaySome.ended (λ M 𝓤. ReplaySome.clauses) ReplaySomeCode.name ReplaySomeCode.code
 function tell_next = valued TellNext.ended (λ M 𝓤. TellNext.clauses) TellNextCode.name TellNextCode.code
+function u8_from_refusal = valued U8FromRefusal.ended (λ M 𝓤. U8FromRefusal.clauses) U8FromRefusalCode.name U8FromRefusalCode.code
+function refusal_from_file_fault = valued RefusalFromFileFault.ended (λ M 𝓤. RefusalFromFileFault.clauses) RefusalFromFileFaultCode.name RefusalFromFileFaultCode.code
+function refused_from_unread = valued RefusedFromUnread.ended (λ M 𝓤. RefusedFromUnread.clauses) RefusedFromUnreadCode.name RefusedFromUnreadCode.code
+function refused_from_refusal = valued RefusedFromRefusal.ended (λ M 𝓤. RefusedFromRefusal.clauses) RefusedFromRefusalCode.name RefusedFromRefusalCode.code
+function answer_from_step = valued AnswerFromStep.ended (λ M 𝓤. AnswerFromStep.clauses) AnswerFromStepCode.name AnswerFromStepCode.code
+function numbered_from_answered = valued NumberedFromAnswered.ended (λ M 𝓤. NumberedFromAnswered.clauses) NumberedFromAnsweredCode.name NumberedFromAnsweredCode.code

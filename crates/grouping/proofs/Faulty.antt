@@ -81,16 +81,16 @@ module _ (l : Lane) (s : List ℕ) (room : ℕ) where
       was_read : refusal s ≡ 0
       was_read = read_told p s said
 
-      sized : size_of p ≡ size s
+      sized : size_of (Ok p) ≡ size s
       sized = (size_told p s said).1
 
-      pub octets_after : size_of p < length s → refusing 12 ≡ packet_plan l s room
+      pub octets_after : size_of (Ok p) < length s → refusing 12 ≡ packet_plan l s room
       unfolding packet_plan fault
       octets_after h =
           let b : ltb (size s) (length s) ≡ true = rw (← sized) (lt-ltb _ _ h) in
           simp (open', eq-eqb (refusal s) 0 was_read, b)
 
-      module _ (none : length s ≤ size_of p) where
+      module _ (none : length s ≤ size_of (Ok p)) where
         nothing_after : ltb (size s) (length s) ≡ false
         nothing_after = rw (← sized) (le-ltb _ _ none)
 

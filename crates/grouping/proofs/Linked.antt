@@ -10,6 +10,8 @@ use Rattle.marks.proofs.blocks_for.Symbol as marks_blocks_for
 use Rattle.packet.proofs.size_of.Symbol as packet_size_of
 use Rattle.reading.proofs.read_packet.Symbol as reading_read_packet
 use Rattle.grouping.proofs.plan_packet.Symbol as own_plan_packet
+use Rattle.grouping.proofs.RefusedFromUnread.from.Symbol as own_RefusedFromUnread_from
+use Rattle.grouping.proofs.RefusedFromRefusal.from.Symbol as own_RefusedFromRefusal_from
 
 pub table : Tree
 table = Link.table
@@ -28,3 +30,11 @@ Calls W =
 pub has_plan_packet : (W : World) → Holds W "grouping" table → Calls W → HasT (in_world W) true own_plan_packet.code
 unfolding table
 has_plan_packet W here calls = Link.linked-grouping::plan_packet W here calls
+
+pub has_RefusedFromUnread_from : (W : World) → Holds W "grouping" table → Calls W → HasT (in_world W) true own_RefusedFromUnread_from.code
+unfolding table
+has_RefusedFromUnread_from W here calls = Link.linked-grouping::RefusedFromUnread::from W here calls
+
+pub has_RefusedFromRefusal_from : (W : World) → Holds W "grouping" table → Calls W → HasT (in_world W) true own_RefusedFromRefusal_from.code
+unfolding table
+has_RefusedFromRefusal_from W here calls = Link.linked-grouping::RefusedFromRefusal::from W here calls

@@ -93,7 +93,7 @@ pub fn plan_packet(l: Lane, octets: &[u8], room: usize) -> Result<Plan, Refused>
         return Err(Refused::Untaken(Refusal::NotOpen));
     }
     let p = read_packet(octets)?;
-    if size_of(p) < octets.len() {
+    if size_of(Ok(p)) < octets.len() {
         return Err(Refused::Untaken(Refusal::OctetsAfter));
     }
     let Packet::Space {

@@ -30,6 +30,7 @@ use Rattle.state.proofs.is_within.Symbol as state_is_within
 use Rattle.intake.proofs.open_lane.Symbol as own_open_lane
 use Rattle.intake.proofs.take_packet.Symbol as own_take_packet
 use Rattle.intake.proofs.close_lane.Symbol as own_close_lane
+use Rattle.intake.proofs.AnswerFromStep.from.Symbol as own_AnswerFromStep_from
 
 pub table : Tree
 table = Link.table
@@ -74,3 +75,7 @@ has_take_packet W here calls = Link.linked-intake::take_packet W here calls
 pub has_close_lane : (W : World) → Holds W "intake" table → Calls W → HasT (in_world W) true own_close_lane.code
 unfolding table
 has_close_lane W here calls = Link.linked-intake::close_lane W here calls
+
+pub has_AnswerFromStep_from : (W : World) → Holds W "intake" table → Calls W → HasT (in_world W) true own_AnswerFromStep_from.code
+unfolding table
+has_AnswerFromStep_from W here calls = Link.linked-intake::AnswerFromStep::from W here calls

@@ -31,6 +31,11 @@ abbrev pub changed_by : State → Result State Refusal → Changed
 changed_by before (Ok after) = record { refusal = 0; state = after }
 changed_by before (Err r) = record { refusal = number r; state = before }
 
+-- and from what became of one of its lanes
+abbrev pub opened_by : State → ℕ → Result Lane Refusal → Changed
+opened_by before i (Ok l) = changed_by before (Ok (with_lane before i l before.marks))
+opened_by before i (Err r) = changed_by before (Err r)
+
 abbrev pub changed : ℕ → State → State → Changed
 changed refusal new old = record { refusal = refusal; state = unless_refused refusal new old }
 

@@ -9,7 +9,7 @@ ghost use Rattle.std.specs.Prelude.{◌≡◌, length};
 ghost use Rattle.state.specs.State.{lane_at};
 ghost use Rattle.intake.specs.Calls.{packet_step};
 ghost use Rattle.intake.specs.Told.{told, telling};
-ghost use Rattle.intake.specs.After.{taken_as, changed_by, opening, closing, closing_out, taking, taking_pool, taking_out};
+ghost use Rattle.intake.specs.After.{taken_as, changed_by, opened_by, opening, closing, closing_out, taking, taking_pool, taking_out};
 
 use closing::{Own, credit_of, release};
 use grouping::{Refused, Step, plan_packet};
@@ -91,9 +91,9 @@ fn as_changed(before: State, after: Result<State, Refusal>) -> Changed
     }
 }
 
-// The state with the lane open.
-fn after_opening(s: State, lane: usize, settings: Settings, octets: usize) -> Result<State, Refusal>
-    ensures { changed_by s result ≡ opening s lane settings octets }
+// The lane once it is open. It alone is handed on, since the state is large.
+fn lane_opened(s: State, lane: usize, settings: Settings, octets: usize) -> Result<Lane, Refusal>
+    ensures { opened_by s lane result ≡ opening s lane settings octets }
 {
     if is_unsound(s, octets) {
         return Err(Refusal::NotSound);
@@ -112,18 +112,30 @@ fn after_opening(s: State, lane: usize, settings: Settings, octets: usize) -> Re
     if !is_within(lanes, lane, opened) {
         return Err(Refusal::NotPromised);
     }
-    let marks = s.marks;
-    Ok(State {
-        lanes: with_one(lanes, lane, opened),
-        marks,
-    })
+    Ok(opened)
 }
 
 // Opens a lane.
 pub fn open_lane(s: State, lane: usize, settings: Settings, pool: &[u8]) -> Changed
     ensures { result ≡ opening s lane settings (length pool.now) }
 {
-    as_changed(s, after_opening(s, lane, settings, pool.len()))
+    match lane_opened(s, lane, settings, pool.len()) {
+        Ok(opened) => {
+            let lanes = s.lanes;
+            let marks = s.marks;
+            Changed {
+                refusal: 0,
+                state: State {
+                    lanes: with_one(lanes, lane, opened),
+                    marks,
+                },
+            }
+        }
+        Err(refusal) => Changed {
+            refusal: u8::from(refusal),
+            state: s,
+        },
+    }
 }
 
 // The step that a packet comes to, where l is the lane of that number; or why it is refused: by 24, by its plan, or where that is not settled.

@@ -14,6 +14,7 @@ use Rattle.lanes.proofs.branmuslin_is_sound.Symbol as own_branmuslin_is_sound
 use Rattle.lanes.proofs.branmuslin_open_lane.Symbol as own_branmuslin_open_lane
 use Rattle.lanes.proofs.branmuslin_take_packet.Symbol as own_branmuslin_take_packet
 use Rattle.lanes.proofs.branmuslin_close_lane.Symbol as own_branmuslin_close_lane
+use Rattle.lanes.proofs.NumberedFromAnswered.from.Symbol as own_NumberedFromAnswered_from
 
 pub table : Tree
 table = Link.table
@@ -48,3 +49,7 @@ has_branmuslin_take_packet W here calls = Link.linked-lanes::branmuslin_take_pac
 pub has_branmuslin_close_lane : (W : World) → Holds W "lanes" table → Calls W → HasT (in_world W) true own_branmuslin_close_lane.code
 unfolding table
 has_branmuslin_close_lane W here calls = Link.linked-lanes::branmuslin_close_lane W here calls
+
+pub has_NumberedFromAnswered_from : (W : World) → Holds W "lanes" table → Calls W → HasT (in_world W) true own_NumberedFromAnswered_from.code
+unfolding table
+has_NumberedFromAnswered_from W here calls = Link.linked-lanes::NumberedFromAnswered::from W here calls

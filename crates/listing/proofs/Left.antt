@@ -1,6 +1,6 @@
 -- What is left to list where a loop stands; each turn takes one line off its front. What carries both loops of the lister.
 use Prim.Native.Nat.{ℕ, ◌+◌, ◌-◌, ◌≤◌, ◌<◌}
-use mathlib.Core.Path.{◌≡◌, refl}
+use mathlib.Core.Path.{◌≡◌, refl, sym, ap, ◌∙◌}
 use mathlib.Core.List.{List, ◌++◌, append_assoc}
 use native.Mathlib.Nat.{sub-zero}
 use native.Mathlib.Omega.{arith}
@@ -10,6 +10,7 @@ use Rattle.std.specs.Prelude.{Result, Ok, Err}
 use Rattle.refusal.specs.Refusal.{number}
 use Rattle.refusal.proofs.Named.{some}
 use Rattle.packet.specs.Space.{version}
+use Rattle.packet.specs.Told.{told}
 use Rattle.packet.specs.declared.Packet.{Packet}
 use Rattle.packet.specs.declared.Packet.TheVariants.{Space, Encapsulation}
 use Rattle.packet.specs.declared.Unread.{Unread}
@@ -42,21 +43,25 @@ module _ (s : List ℕ) (at n : ℕ) (g : Going s at n) where
   left_end h = let e = at_end s at n g h in simp (e.no_more, e.stop_here, e.end_here, e.all_counted)
 
   -- what is found at index at: a packet, or a refusal
-  module _ (r : Result Found Unread) where
-    pub left_more : (found : Found) → r ≡ Ok found → Finds s at (Ok found) → Turn s at n found.next × (left s at n ≡ line_found at r ++ left s found.next (n + 1))
+  module _ (found : Found) (f : Finds s at found) where
+    pub left_more : (p : Packet) → found.read ≡ Ok p → Turn s at n found.next × (left s at n ≡ line_found at found.read ++ left s found.next (n + 1))
     unfolding packet_lines
-    left_more found is f =
-        let t = turned s at n g (found_read s at found f) f.1 in
-        (t, rw is (simp (t.place, ← (read_line at found.packet (drop at s) (says (Ok found.packet) (drop at s) f.0)), append_assoc)))
+    left_more p is =
+        let w = found_read s at found f p is in
+        let t = turned s at n g w.0 w.1 in
+        (t, rw is (simp (t.place, ← (read_line at p (drop at s) (says (Ok p) (drop at s) (ap told (sym is) ∙ f.tells))), append_assoc)))
 
-    pub left_refused : at < length s → (u : Unread) → r ≡ Err u → Finds s at (Err u) → left s at n ≡ line_found at r ++ end_line at n
+    pub left_refused : at < length s → (u : Unread) → found.read ≡ Err u → left s at n ≡ line_found at found.read ++ end_line at n
     unfolding packet_lines refused_line
-    left_refused here u is f =
-        let w = found_refused s at u f in
+    left_refused here u is =
+        let w = found_refused s at found f u is in
         let t = at_refusal s at n g w.2 here w.0 w.1 in
         rw is (simp (t.no_more, t.stop_here, t.place_here, t.end_here, t.all_counted, ne_eqb (number u.refusal) 0 (λ z. omega (arith, some u.refusal, z))))
 
-  -- whatever is found, its line comes first
-  pub left_begins : at < length s → (r : Result Found Unread) → Finds s at r → (rest : List ℕ) × (left s at n ≡ line_found at r ++ rest)
-  left_begins here (Ok found) f = (_, (left_more (Ok found) found refl f).1)
-  left_begins here (Err u) f = (_, left_refused (Err u) here u refl f)
+    -- whatever is found, its line comes first
+    pub left_begins : at < length s → (rest : List ℕ) × (left s at n ≡ line_found at found.read ++ rest)
+    left_begins here = by_read found.read refl
+      where
+        by_read : (r : Result Packet Unread) → found.read ≡ r → (rest : List ℕ) × (left s at n ≡ line_found at found.read ++ rest)
+        by_read (Ok p) is = (_, (left_more p is).1)
+        by_read (Err u) is = (_, left_refused here u is)

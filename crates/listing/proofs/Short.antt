@@ -39,25 +39,29 @@ module _ (at : ℕ) (s : List ℕ) (h : at < 2 ^ 64) (k : length s < 2 ^ 64) whe
   packet_short : (p : Packet) → Says (Ok p) s → length (line_of at p) ≤ 128
   packet_short (Space t x a f c n) w =
       line_short at (ascii " space") (a ∷ f ∷ c ∷ n ∷ []) h
-      (omega (arith, w.4), (omega (arith, w.5), (omega (arith, w.6), (omega (arith, (part_told (Space t x a f c n) s w).1), tt)))) (omega arith) (omega arith)
+      (omega (arith, w.4), (omega (arith, w.5), (omega (arith, w.6), (omega (arith, (part_told (Ok (Space t x a f c n)) s w).1), tt)))) (omega arith) (omega arith)
   packet_short (Encapsulation p u x l n) w =
       line_short at (ascii " encap") (p ∷ x ∷ l ∷ n ∷ []) h
-      (omega (arith, w.2), (omega (arith, w.4), (omega (arith, (part_told (Encapsulation p u x l n) s w).1), (omega (arith, (part_told (Encapsulation p u x l n) s w).1), tt)))) (omega arith) (omega arith)
+      (omega (arith, w.2), (omega (arith, w.4), (omega (arith, (part_told (Ok (Encapsulation p u x l n)) s w).1), (omega (arith, (part_told (Ok (Encapsulation p u x l n)) s w).1), tt)))) (omega arith) (omega arith)
 
   refusal_short : (u : Unread) → Says (Err u) s → length (line_found at (Err u)) ≤ 128
   refusal_short u w =
       line_short at (ascii " refused") (number u.refusal ∷ u.place ∷ []) h
       (omega (arith, w.0, refusal_most s), (omega (arith, w.2, place_within s), tt)) (omega arith) (omega arith)
 
--- so is the line of what is found
-pub found_short : (s : List ℕ) (at : ℕ) (r : Result Found Unread) → Finds s at r → length s < 2 ^ 64 → at < 2 ^ 64 → length (line_found at r) ≤ 128
-found_short s at (Ok found) f k h = packet_short at (drop at s) h (omega (arith, length-drop at s)) found.packet (says (Ok found.packet) (drop at s) f.0)
-found_short s at (Err u) f k h = refusal_short at (drop at s) h (omega (arith, length-drop at s)) u (says (Err u) (drop at s) f)
+  -- so is the line of what is found
+  read_short : (r : Result Packet Unread) → Says r s → length (line_found at r) ≤ 128
+  read_short (Ok p) w = packet_short p w
+  read_short (Err u) w = refusal_short u w
+
+pub found_short : (s : List ℕ) (at : ℕ) (found : Found) → Finds s at found → length s < 2 ^ 64 → at < 2 ^ 64 → length (line_found at found.read) ≤ 128
+found_short s at found f k h = read_short at (drop at s) h (omega (arith, length-drop at s)) found.read (says found.read (drop at s) f.tells)
 
 -- so each is put whole into an array of 128 octets
 module _ (d : List ℕ) (e : length d ≡ 128) (at : ℕ) (h : at < 2 ^ 64) where
-  pub found_told : (s : List ℕ) (r : Result Found Unread) → Finds s at r → length s < 2 ^ 64 → {out : List ℕ} {to : ℕ} → Put d 0 (line_found at r) out to → to ≡ length (line_found at r)
-  found_told s r f k p = omega (arith, (wrote d 0 (line_found at r) (omega (arith, e, found_short s at r f k h)) p).0)
+  pub found_told : (s : List ℕ) (found : Found) → Finds s at found → length s < 2 ^ 64 → {out : List ℕ} {to : ℕ} → Put d 0 (line_found at found.read) out to
+      → to ≡ length (line_found at found.read)
+  found_told s found f k p = omega (arith, (wrote d 0 (line_found at found.read) (omega (arith, e, found_short s at found f k h)) p).0)
 
   pub end_told : (n : ℕ) → n < 2 ^ 64 → {out : List ℕ} {to : ℕ} → Put d 0 (end_line at n) out to → to ≡ length (end_line at n)
   end_told n k p = omega (arith, (wrote d 0 (end_line at n) (omega (arith, e, end_short at n h k)) p).0)

@@ -89,8 +89,8 @@ fn fits(s: &[u8], room: usize) -> bool
             break 0;
         }
         left -= line;
-        match found {
-            Ok(found) => {
+        match found.read {
+            Ok(_) => {
                 at = found.next;
                 packets += 1;
             }
@@ -115,8 +115,8 @@ fn put_all(s: &[u8], out: &mut [u8]) -> usize
         }
         let found = look_at(s, at);
         to = put_found(out, to, at, found);
-        match found {
-            Ok(found) => {
+        match found.read {
+            Ok(_) => {
                 at = found.next;
                 packets += 1;
             }

@@ -4,7 +4,7 @@ ghost use Rattle.text.specs.Written.{reached, written};
 ghost use Rattle.listing.specs.Listing.{line_end, line, end_line};
 ghost use Rattle.listing.specs.Lines.{line_of, line_found};
 
-use packet::{Packet, Unread};
+use packet::Packet;
 use text::{put, put_decimal, put_numbers};
 use walk::Found;
 
@@ -63,17 +63,12 @@ fn put_packet(out: &mut [u8], at: usize, place: usize, p: Packet) -> usize
 }
 
 // Puts the line of what was found at a place: a packet, or the refusal with the place of its fault.
-pub(crate) fn put_found(
-    out: &mut [u8],
-    at: usize,
-    place: usize,
-    found: Result<Found, Unread>,
-) -> usize
-    ensures value { result ≡ reached (length out.old) at (line_found place found) }
-    ensures out_after { out.new ≡ written out.old at (line_found place found) }
+pub(crate) fn put_found(out: &mut [u8], at: usize, place: usize, found: Found) -> usize
+    ensures value { result ≡ reached (length out.old) at (line_found place found.read) }
+    ensures out_after { out.new ≡ written out.old at (line_found place found.read) }
 {
-    match found {
-        Ok(found) => put_packet(out, at, place, found.packet),
+    match found.read {
+        Ok(p) => put_packet(out, at, place, p),
         Err(unread) => {
             let number = u8::from(unread.refusal);
             put_line(

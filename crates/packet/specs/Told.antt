@@ -26,12 +26,14 @@ abbrev pub place_of : Result Packet Unread → ℕ
 place_of (Ok p) = 0
 place_of (Err u) = u.place
 
--- octets of the whole packet that was read
-abbrev pub size_of : Packet → ℕ
-size_of (Space t x a f c n) = space_header + n
-size_of (Encapsulation p u x h n) = h + n
+-- octets of the whole packet that was read, or 0
+abbrev pub size_of : Result Packet Unread → ℕ
+size_of (Ok (Space t x a f c n)) = space_header + n
+size_of (Ok (Encapsulation p u x h n)) = h + n
+size_of (Err u) = 0
 
--- octets of its header
-abbrev pub header_of : Packet → ℕ
-header_of (Space t x a f c n) = space_header
-header_of (Encapsulation p u x h n) = h
+-- octets of its header, or 0
+abbrev pub header_of : Result Packet Unread → ℕ
+header_of (Ok (Space t x a f c n)) = space_header
+header_of (Ok (Encapsulation p u x h n)) = h
+header_of (Err u) = 0

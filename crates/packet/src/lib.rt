@@ -57,22 +57,25 @@ pub struct Unread {
     pub place: u32,
 }
 
-// The octets of the header that was read.
-pub fn header_of(p: Packet) -> usize
-    ensures { result ≡ header_of p }
+// The octets of the header that was read, or 0 for a refusal.
+pub fn header_of(read: Result<Packet, Unread>) -> usize
+    ensures { result ≡ header_of read }
 {
-    match p {
-        Packet::Space { .. } => SPACE_HEADER,
-        Packet::Encapsulation { header, .. } => header as usize,
+    match read {
+        Ok(Packet::Space { .. }) => SPACE_HEADER,
+        Ok(Packet::Encapsulation { header, .. }) => header as usize,
+        Err(_) => 0,
     }
 }
 
-// The octets of the whole packet that was read. Its match is its own: each variant's sum stands whole, and by way of `header_of` it would take another match for the content.
-pub fn size_of(p: Packet) -> usize
-    ensures { result ≡ size_of p }
+// The octets of the whole packet that was read, or 0 for a refusal. Its match is its own: each variant's sum stands whole, and by way of `header_of` it would take
+// another match for the content.
+pub fn size_of(read: Result<Packet, Unread>) -> usize
+    ensures { result ≡ size_of read }
 {
-    match p {
-        Packet::Space { octets, .. } => SPACE_HEADER + octets as usize,
-        Packet::Encapsulation { header, octets, .. } => header as usize + octets as usize,
+    match read {
+        Ok(Packet::Space { octets, .. }) => SPACE_HEADER + octets as usize,
+        Ok(Packet::Encapsulation { header, octets, .. }) => header as usize + octets as usize,
+        Err(_) => 0,
     }
 }

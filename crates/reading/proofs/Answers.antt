@@ -77,7 +77,7 @@ place_told (Ok p) s w = none_placed s (read_told p s w)
 place_told (Err u) s w = w.2
 
 -- a packet that was read has the header and the size that the octets say
-pub size_told : (p : Packet) (s : List ℕ) → Says (Ok p) s → (header_of p ≡ header s) × (size_of p ≡ size s)
+pub size_told : (p : Packet) (s : List ℕ) → Says (Ok p) s → (header_of (Ok p) ≡ header s) × (size_of (Ok p) ≡ size s)
 unfolding header size
 size_told (Space t x a f c n) s w = simp (eq-eqb (version s) 0 w.1) (refl, omega (arith, w.7))
 size_told (Encapsulation p u x h n) s w =
@@ -96,5 +96,6 @@ pub part_refused : (u : Unread) (s : List ℕ) → Says (Err u) s → PartIs 0 0
 unfolding content content_at
 part_refused u s w = simp (ne_eqb (refusal s) 0 (λ z. omega (arith, w.0, w.1))) (omega arith, omega arith, refl, refl)
 
-pub part_told : (p : Packet) (s : List ℕ) → Says (Ok p) s → PartIs (header_of p) (size_of p) s
-part_told p s w = read_part s (read_told p s w) (size_told p s w)
+pub part_told : (r : Result Packet Unread) (s : List ℕ) → Says r s → PartIs (header_of r) (size_of r) s
+part_told (Ok p) s w = read_part s (read_told p s w) (size_told p s w)
+part_told (Err u) s w = part_refused u s w

@@ -64,12 +64,8 @@ pub fn data_of(s: &[u8]) -> &[u8]
     ensures result_value { result.now ≡ content s.now }
     ensures ref_ptr_value { (result.ref_ptr.0 ≡ s.entry.ref_ptr.0) × (result.ref_ptr.1 ≡ s.entry.ref_ptr.1 + content_at s.now) }
 {
-    match read_packet(s) {
-        Ok(p) => {
-            let from = header_of(p);
-            let to = size_of(p);
-            &s[from..to]
-        }
-        Err(_) => &s[..0],
-    }
+    let read = read_packet(s);
+    let from = header_of(read);
+    let to = size_of(read);
+    &s[from..to]
 }

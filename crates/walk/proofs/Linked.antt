@@ -5,14 +5,13 @@ use prog.LinkedThreads.{HasT}
 use Rattle.walk.proofs.TheLink as Link
 use Rattle.std.proofs.cmp.Ordering.and_eq.Symbol as Ordering_and_eq
 use Rattle.std.proofs.prelude.OptionPartialEq.eq.Symbol as OptionPartialEq_eq
+use Rattle.std.proofs.prelude.ResultPartialEq.eq.Symbol as ResultPartialEq_eq
 use Rattle.std.proofs.prelude.UsizePartialEq.eq.Symbol as UsizePartialEq_eq
-use Rattle.std.proofs.prelude.AnyFrom.from.Symbol as AnyFrom_from
 use Rattle.std.proofs.prelude.OptionDebug.fmt.Symbol as OptionDebug_fmt
+use Rattle.std.proofs.prelude.ResultDebug.fmt.Symbol as ResultDebug_fmt
 use Rattle.std.proofs.fmt.Formatter.derived_fields2.Symbol as Formatter_derived_fields2
 use Rattle.std.proofs.fmt.Formatter.derived_fields3.Symbol as Formatter_derived_fields3
 use Rattle.std.proofs.prelude.UsizeDebug.fmt.Symbol as UsizeDebug_fmt
-use Rattle.std.proofs.prelude.ResultFromResidualErrResidual.from_residual.Symbol as ResultFromResidualErrResidual_from_residual
-use Rattle.std.proofs.prelude.ResultTry.branch.Symbol as ResultTry_branch
 use Rattle.packet.proofs.PacketDebug.fmt.Symbol as packet_PacketDebug_fmt
 use Rattle.packet.proofs.PacketPartialEq.eq.Symbol as packet_PacketPartialEq_eq
 use Rattle.packet.proofs.UnreadDebug.fmt.Symbol as packet_UnreadDebug_fmt
@@ -30,21 +29,20 @@ abbrev pub Calls : World → Type 0
 Calls W =
     HasT (in_world W) true Ordering_and_eq.code ×
     (HasT (in_world W) true OptionPartialEq_eq.code ×
+    (HasT (in_world W) true ResultPartialEq_eq.code ×
     (HasT (in_world W) true UsizePartialEq_eq.code ×
-    (HasT (in_world W) true AnyFrom_from.code ×
     (HasT (in_world W) true OptionDebug_fmt.code ×
+    (HasT (in_world W) true ResultDebug_fmt.code ×
     (HasT (in_world W) true Formatter_derived_fields2.code ×
     (HasT (in_world W) true Formatter_derived_fields3.code ×
     (HasT (in_world W) true UsizeDebug_fmt.code ×
-    (HasT (in_world W) true ResultFromResidualErrResidual_from_residual.code ×
-    (HasT (in_world W) true ResultTry_branch.code ×
     (HasT (in_world W) true packet_PacketDebug_fmt.code ×
     (HasT (in_world W) true packet_PacketPartialEq_eq.code ×
     (HasT (in_world W) true packet_UnreadDebug_fmt.code ×
     (HasT (in_world W) true packet_UnreadPartialEq_eq.code ×
     (HasT (in_world W) true packet_size_of.code ×
     (HasT (in_world W) true reading_read_packet.code ×
-    Unit {0})))))))))))))))
+    Unit {0}))))))))))))))
 
 pub has_look_at : (W : World) → Holds W "walk" table → Calls W → HasT (in_world W) true own_look_at.code
 unfolding table

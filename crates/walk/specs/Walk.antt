@@ -1,5 +1,5 @@
 -- A walk over a run of packets that lie one after another. It stops at the end or at the first refusal.
-use Rattle.std.specs.Prelude.{ℕ, zero, suc, ◌+◌, ◌≡◌, List, [], ◌∷◌, Bool, cond, length, drop, eqb, Result, Ok, Err, Option, None, Some}
+use Rattle.std.specs.Prelude.{ℕ, zero, suc, ◌+◌, ◌≡◌, List, [], ◌∷◌, Bool, cond, length, drop, eqb, Option, None, Some}
 use Rattle.refusal.specs.Refusal.{number, named}
 use Rattle.packet.specs.Told.{told}
 use Rattle.reading.specs.Reading.{refusal, place as place_in, reading, size}
@@ -19,15 +19,10 @@ next s at = at + size (drop at s)
 abbrev pub next_or_here : List ℕ → ℕ → ℕ
 next_or_here s at = cond (read_at s at) (next s at) at
 
--- what is found at index at: the packet as the reader tells it, and where the next one begins; or the reader's refusal
-abbrev pub Finds : List ℕ → ℕ → Result Found Unread → Type 0
-Finds s at (Ok found) = (told (Ok found.packet) ≡ reading (drop at s)) × (found.next ≡ next s at)
-Finds s at (Err unread) = told (Err unread) ≡ reading (drop at s)
-
--- where a walk goes on after what is found at index at
-abbrev pub goes_on : ℕ → Result Found Unread → ℕ
-goes_on at (Ok found) = found.next
-goes_on at (Err unread) = at
+-- what is found at index at: the packet or its refusal, as the reader tells it, and where the next packet begins
+pub record Finds (s : List ℕ) (at : ℕ) (found : Found) : Type 0 where
+  pub tells : told found.read ≡ reading (drop at s)
+  pub place : found.next ≡ next_or_here s at
 
 -- from index at on, over at most `most` packets: where each packet begins, and where the last one ends
 unfoldable pub places_from : ℕ → List ℕ → ℕ → List ℕ

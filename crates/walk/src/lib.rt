@@ -17,28 +17,31 @@ pub struct Walked {
     pub stopped: Option<Unread>,
 }
 
-// What lies at an index: the packet, and where the next one begins.
+// What lies at an index: the packet or its refusal, and where the next packet begins.
 #[derive(Clone, Copy, Debug, PartialEq, Eq)]
 pub struct Found {
-    pub packet: Packet,
+    pub read: Result<Packet, Unread>,
     pub next: usize,
 }
 
-// Looks at index at of s. Past the end there is no packet.
-pub fn look_at(s: &[u8], at: usize) -> Result<Found, Unread>
+// Looks at index at of s. Past the end there is no packet; where none is read, next is at.
+pub fn look_at(s: &[u8], at: usize) -> Found
     ensures { Finds s.now at result }
 {
     if s.len() < at {
-        return Err(Unread {
-            refusal: Refusal::CutShort,
-            place: 0,
-        });
+        return Found {
+            read: Err(Unread {
+                refusal: Refusal::CutShort,
+                place: 0,
+            }),
+            next: at,
+        };
     }
-    let packet = read_packet(&s[at..])?;
-    Ok(Found {
-        packet,
-        next: at + size_of(packet),
-    })
+    let read = read_packet(&s[at..]);
+    Found {
+        read,
+        next: at + size_of(read),
+    }
 }
 
 // Goes from packet to packet, and stops at the end or at the first refusal. The paper names the form: a loop that is left by `break` with the answer.
@@ -51,8 +54,9 @@ pub fn walk(s: &[u8]) -> Walked
         if s.len() <= at {
             break None;
         }
-        match look_at(s, at) {
-            Ok(found) => {
+        let found = look_at(s, at);
+        match found.read {
+            Ok(_) => {
                 at = found.next;
                 packets += 1;
             }

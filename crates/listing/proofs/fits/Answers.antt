@@ -22,7 +22,7 @@ loop-at-init c = let s = c.args.s.now in (refl, going_at_start s, omega arith, o
 
 pub loop-at-smaller : goal.loop-at-smaller
 loop-at-smaller c =
-    let t = (left_more c.args.s.now c.loop-at.at c.loop-at.packets c.loop-at.invariant.1 c.look_at-found.result c.in-Ok.found c.in-Ok.is c.in-Ok.ensures).0 in
+    let t = (left_more c.args.s.now c.loop-at.at c.loop-at.packets c.loop-at.invariant.1 c.look_at-found.result c.look_at-found.ensures c.in-Ok.field-0 c.in-Ok.is).0 in
     omega arith
 
 pub loop-at-preserved : goal.loop-at-preserved
@@ -31,9 +31,9 @@ loop-at-preserved c =
     let l = c.loop-at in
     let f = c.look_at-found in
     let p = c.put_found-line in
-    let t = left_more s l.at l.packets l.invariant.1 f.result c.in-Ok.found c.in-Ok.is c.in-Ok.ensures in
+    let t = left_more s l.at l.packets l.invariant.1 f.result f.ensures c.in-Ok.field-0 c.in-Ok.is in
     let told = found_told l.scratch l.invariant.0 l.at (omega arith) s f.result f.ensures (omega arith) (p.ensures.value, p.ensures.out_after) in
-    (p.auto.out ∙ l.invariant.0, t.0.going, omega (arith, l.invariant.2), omega (arith, l.invariant.3, ap length t.1, length-append (line_found l.at f.result) (left s c.in-Ok.found.next (l.packets + 1)), told, c.if-left-line.false))
+    (p.auto.out ∙ l.invariant.0, t.0.going, omega (arith, l.invariant.2), omega (arith, l.invariant.3, ap length t.1, length-append (line_found l.at f.result.read) (left s f.result.next (l.packets + 1)), told, c.if-left-line.false))
 
 pub returns : goal.returns
 returns c =
@@ -55,12 +55,12 @@ returns c =
       | else-s-at+then-left-line w ↦
           let f = w.look_at-found in
           let told = found_told l.scratch l.invariant.0 l.at (omega arith) s f.result f.ensures long (w.put_found-line.ensures.value, w.put_found-line.ensures.out_after) in
-          let b = left_begins s l.at l.packets g w.if-s-at.false f.result f.ensures in
-          inr (w.last-is, omega (arith, l.invariant.3, ap length b.1, length-append (line_found l.at f.result) b.0, told, w.if-left-line.true))
+          let b = left_begins s l.at l.packets g f.result f.ensures w.if-s-at.false in
+          inr (w.last-is, omega (arith, l.invariant.3, ap length b.1, length-append (line_found l.at f.result.read) b.0, told, w.if-left-line.true))
       | else-s-at+else-left-line+in-Err w ↦
           let f = w.look_at-found in
           let told = found_told l.scratch l.invariant.0 l.at (omega arith) s f.result f.ensures long (w.put_found-line.ensures.value, w.put_found-line.ensures.out_after) in
-          let e = left_refused s l.at l.packets g f.result w.if-s-at.false w.in-Err.field-0 w.in-Err.is w.in-Err.ensures in
-          inl (omega (arith, l.invariant.3, w.last-is, w.if-left-line.false, told, ap length e, length-append (line_found l.at f.result) (end_line l.at l.packets)))
+          let e = left_refused s l.at l.packets g f.result f.ensures w.if-s-at.false w.in-Err.field-0 w.in-Err.is in
+          inl (omega (arith, l.invariant.3, w.last-is, w.if-left-line.false, told, ap length e, length-append (line_found l.at f.result.read) (end_line l.at l.packets)))
     ] in
     fitting c.put_end.result c.if-s-at.last (length (listing s)) room (omega (arith, end, end_some l.at l.packets)) (⊎_elim (λ e. inl (omega (arith, e, end))) inr ended)

@@ -25,7 +25,7 @@ loop-at-init c = let s = c.args.s.now in (going_at_start s, rw (left_all s) (beg
 
 pub loop-at-smaller : goal.loop-at-smaller
 loop-at-smaller c =
-    let t = (left_more c.args.s.now c.loop-at.at c.loop-at.packets c.loop-at.invariant.0 c.look_at-found.result c.in-Ok.found c.in-Ok.is c.in-Ok.ensures).0 in
+    let t = (left_more c.args.s.now c.loop-at.at c.loop-at.packets c.loop-at.invariant.0 c.look_at-found.result c.look_at-found.ensures c.in-Ok.field-0 c.in-Ok.is).0 in
     omega arith
 
 pub loop-at-preserved : goal.loop-at-preserved
@@ -34,8 +34,8 @@ loop-at-preserved c =
     let l = c.loop-at in
     let f = c.look_at-found in
     let p = c.put_found-to.ensures in
-    let t = left_more s l.at l.packets l.invariant.0 f.result c.in-Ok.found c.in-Ok.is c.in-Ok.ensures in
-    (t.0.going, line_told c.args.out.now l.out l.to (line_found l.at f.result) _ (listing s) c.requires (rw t.1 at l.invariant.1) (p.value, p.out_after))
+    let t = left_more s l.at l.packets l.invariant.0 f.result f.ensures c.in-Ok.field-0 c.in-Ok.is in
+    (t.0.going, line_told c.args.out.now l.out l.to (line_found l.at f.result.read) _ (listing s) c.requires (rw t.1 at l.invariant.1) (p.value, p.out_after))
 
 pub returns : goal.returns
 returns c =
@@ -49,8 +49,8 @@ returns c =
       | else-s-at+in-Err w ↦
           let f = w.look_at-found in
           let p = w.put_found-to.ensures in
-          let e = left_refused s l.at l.packets g f.result w.if-s-at.false w.in-Err.field-0 w.in-Err.is w.in-Err.ensures in
-          rw (w.out-is, w.last-is) (line_told d l.out l.to (line_found l.at f.result) _ (listing s) c.requires (rw e at l.invariant.1) (p.value, p.out_after))
+          let e = left_refused s l.at l.packets g f.result f.ensures w.if-s-at.false w.in-Err.field-0 w.in-Err.is in
+          rw (w.out-is, w.last-is) (line_told d l.out l.to (line_found l.at f.result.read) _ (listing s) c.requires (rw e at l.invariant.1) (p.value, p.out_after))
     ] in
     let told = c.put_end.ensures in
     let put = end_told d c.if-s-at.out c.if-s-at.last _ (listing s) c.requires ended (told.value, told.out_after) in

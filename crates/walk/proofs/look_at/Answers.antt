@@ -15,4 +15,4 @@ pub returns : goal.returns
 returns c =
     let s = c.args.s.now in
     let at = c.args.at in
-    finds s at c.in_ok-packet.packet (c.in_ok-packet.ensures ∙ rest s at) c.size_of.ensures
+    finds s at c.read_packet-read.result (c.read_packet-read.ensures ∙ rest s at) c.size_of.ensures

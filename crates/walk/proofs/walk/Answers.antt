@@ -11,14 +11,18 @@ pub loop-at-smaller : goal.loop-at-smaller
 loop-at-smaller c =
     let s = c.args.s.now in
     let l = c.loop-at in
-    let t = turned s l.at l.packets l.invariant (found_read s l.at c.in-Ok.found c.in-Ok.ensures) c.in-Ok.ensures.1 in
+    let f = c.look_at-found in
+    let w = found_read s l.at f.result f.ensures c.in-Ok.field-0 c.in-Ok.is in
+    let t = turned s l.at l.packets l.invariant w.0 w.1 in
     omega (arith, t.rises, t.within)
 
 pub loop-at-preserved : goal.loop-at-preserved
 loop-at-preserved c =
     let s = c.args.s.now in
     let l = c.loop-at in
-    (turned s l.at l.packets l.invariant (found_read s l.at c.in-Ok.found c.in-Ok.ensures) c.in-Ok.ensures.1).going
+    let f = c.look_at-found in
+    let w = found_read s l.at f.result f.ensures c.in-Ok.field-0 c.in-Ok.is in
+    (turned s l.at l.packets l.invariant w.0 w.1).going
 
 pub returns-then-s-at : goal.returns-then-s-at
 returns-then-s-at c =
@@ -31,5 +35,5 @@ returns-in-Err c =
     let s = c.args.s.now in
     let l = c.loop-at in
     let u = c.in-Err.unread in
-    let told = found_refused s l.at u c.in-Err.ensures in
+    let told = found_refused s l.at c.look_at-found.result c.look_at-found.ensures u c.in-Err.is in
     walked_to_refusal s c.if-s-at.false u (at_refusal s l.at l.packets l.invariant told.2 c.if-s-at.false told.0 told.1)

@@ -1,7 +1,7 @@
 -- The ways out are those of `Opened`, in the order of the refusals.
-use Rattle.std.proofs.Common.{ap, not}
+use Rattle.std.proofs.Common.{ap, not, refl}
 use Rattle.intake.proofs.Opened.{not_sound, no_lane, is_open, is_illegal, no_promise, opens}
-use Rattle.intake.proofs.after_opening.Goals as goal
+use Rattle.intake.proofs.lane_opened.Goals as goal
 
 pub returns-then-is_unsound : goal.returns-then-is_unsound
 returns-then-is_unsound c = not_sound _ _ _ _ _ c.is_unsound.ensures c.if-is_unsound.true
@@ -26,4 +26,4 @@ returns-then-not-is_within c =
 pub returns : goal.returns
 returns c =
     opens c.args.s _ _ _ _ c.is_unsound.ensures c.if-is_unsound.false c.if-lane-gt7.false _ c.lane_at.ensures.value c.if-lane_at.false
-    _ c.is_illegal.ensures c.if-is_illegal.false _ c.opened_with-opened.ensures _ c.is_within.ensures (ap not c.if-not-is_within.false) _ c.with_one.ensures
+    _ c.is_illegal.ensures c.if-is_illegal.false _ c.opened_with-opened.ensures _ c.is_within.ensures (ap not c.if-not-is_within.false) _ refl
