@@ -40,7 +40,7 @@ pub(crate) fn open<W: Write>(
     *state = changed.state;
     // `Changed` is a struct of the C interface, in which 0 refuses nothing.
     match changed.refusal {
-        0 => write!(to, " ok"),
+        0 => write!(to, " {}", "ok"),
         number => say_refused(to, number),
     }
 }
@@ -71,7 +71,7 @@ fn say_answer<W: Write>(to: &mut W, answer: Result<Answer, Refused>, out: &[u8])
     match answer {
         Err(Refused::Untaken(refusal)) => say_refused(to, u8::from(refusal)),
         Err(Refused::Unread(unread)) => say_unread(to, unread),
-        Ok(Answer::Repeat) => write!(to, " repeat"),
+        Ok(Answer::Repeat) => write!(to, " {}", "repeat"),
         Ok(Answer::Stray { missing, given_up }) => say_step(to, "stray", missing, given_up),
         Ok(Answer::Held { missing, given_up }) => say_step(to, "held", missing, given_up),
         Ok(
@@ -107,18 +107,21 @@ pub(crate) fn send<W: Write>(
     say_answer(to, answered.answer, &out)
 }
 
-// Sends an unsegmented packet of APID 42 with one octet of data to lane 0.
-fn send_short(state: &mut State, count: u32, pool: &mut [u8]) {
+// Sends an unsegmented packet of APID 42 with one octet of data to lane 0. The state goes in and comes back by value, as it does in the library: put behind a
+// reference after each packet, it would be copied once more.
+fn send_short(state: State, count: u32, pool: &mut [u8]) -> State {
     let [high, low] = low16(49152 + count % 16384).to_be_bytes();
     let packet = [0, 42, high, low, 0, 0, 0];
-    *state = take_packet(*state, 0, &packet, pool, &mut [0]).state;
+    take_packet(state, 0, &packet, pool, &mut [0]).state
 }
 
 // Sends as many such packets as a lane may take.
 pub(crate) fn fill(state: &mut State, pool: &mut [u8]) {
+    let mut filled = *state;
     for sent in 0..262144 {
-        send_short(state, sent, pool);
+        filled = send_short(filled, sent, pool);
     }
+    *state = filled;
 }
 
 // Makes a lane: its fields in the order of the struct.

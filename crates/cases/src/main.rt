@@ -2,6 +2,8 @@
 // this folder has the paper's cases that are not starred, and says what each line means; so a new case is a line there.
 #![tactic(auto)]
 
+ghost use Rattle.std.specs.Prelude.{◌≤◌, length, IfOk};
+
 mod lane_cases;
 mod line;
 mod octet_cases;
@@ -9,7 +11,7 @@ mod say;
 mod writing_cases;
 
 use lane_cases::{close, fill, make_lane, make_mark, open, say_sound, send};
-use line::numbers_of;
+use line::{Numbers, numbers_of};
 use octet_cases::{say_reading, say_walking};
 use say::lend;
 use state::{State, fresh_start};
@@ -33,11 +35,11 @@ fn is_passed_over(line: &[u8]) -> bool {
 fn tell<W: Write>(
     to: &mut W,
     line: &[u8],
+    n: Numbers,
     state: &mut State,
     content: &[u8],
     pool: &mut [u8],
 ) -> io::Result<()> {
-    let n = numbers_of(line);
     match line.first_chunk() {
         Some(b"read") => say_reading(to, line),
         Some(b"walk") => say_walking(to, line),
@@ -54,7 +56,7 @@ fn tell<W: Write>(
             Ok(())
         }
         Some(b"soun") => say_sound(to, state),
-        _ => write!(to, " unknown"),
+        _ => write!(to, " {}", "unknown"),
     }
 }
 
@@ -75,7 +77,7 @@ fn run_line<W: Write>(
             if !is_passed_over(line) {
                 to.write_all(line)?;
                 to.write_all(b":")?;
-                tell(to, line, &mut made.state, content, lend(pool, made.pool))?;
+                tell(to, line, n, &mut made.state, content, lend(pool, made.pool))?;
                 to.write_all(b"\n")?;
             }
         }
@@ -97,12 +99,26 @@ fn run_lines<W: Write>(to: &mut W, text: &[u8], content: &[u8], pool: &mut [u8])
     Ok(())
 }
 
+// Reads until the room is full or the input ends, and answers how many octets came (as in list).
+fn read_full<R: Read>(input: &mut R, room: &mut [u8]) -> io::Result<usize>
+    ensures { IfOk result (λ n. n ≤ length room.new) }
+{
+    let mut done = 0;
+    while done < room.len() {
+        let count = input.read(&mut room[done..])?;
+        if count == 0 {
+            break;
+        }
+        done += count;
+    }
+    Ok(done)
+}
+
 fn main(rt: HostRuntime) -> io::Result<()> {
     let mut input = [0u8; 65536];
-    let room = input.len();
-    let count = io::copy(&mut rt.stdin().take(room as u64), &mut &mut input[..])? as usize;
+    let count = read_full(&mut rt.stdin(), &mut input)?;
     // What fills the buffer may go on.
-    if room <= count {
+    if input.len() <= count {
         return rt.stdout().write_all(b"too long\n");
     }
     let mut content = [0u8; 65537];

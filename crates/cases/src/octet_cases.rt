@@ -11,7 +11,7 @@ use std::io::Write;
 pub(crate) fn say_unread<W: Write>(to: &mut W, unread: Unread) -> io::Result<()> {
     let number = u8::from(unread.refusal);
     let place = unread.place;
-    write!(to, " refused {number} {place}")
+    write!(to, " {} {number} {place}", "refused")
 }
 
 // The answer in the order of the reader's fields.
@@ -28,7 +28,8 @@ fn say_packet<W: Write>(to: &mut W, read: Result<Packet, Unread>) -> io::Result<
             },
         ) => write!(
             to,
-            " space {packet_type} {secondary} {apid} {flags} {count} {octets}"
+            " {} {packet_type} {secondary} {apid} {flags} {count} {octets}",
+            "space"
         ),
         Ok(
             Packet::Encapsulation {
@@ -38,14 +39,18 @@ fn say_packet<W: Write>(to: &mut W, read: Result<Packet, Unread>) -> io::Result<
                 header,
                 octets,
             },
-        ) => write!(to, " encap {protocol} {user} {extension} {header} {octets}"),
+        ) => write!(
+            to,
+            " {} {protocol} {user} {extension} {header} {octets}",
+            "encap"
+        ),
         Err(unread) => say_unread(to, unread),
     }
 }
 
 fn say_read<W: Write>(to: &mut W, s: &[u8]) -> io::Result<()> {
     say_packet(to, reading::read_packet(s))?;
-    write!(to, " data")?;
+    write!(to, " {}", "data")?;
     say_octets(to, reading::data_of(s))
 }
 
@@ -53,7 +58,7 @@ fn say_walk<W: Write>(to: &mut W, s: &[u8]) -> io::Result<()> {
     let walked = walk::walk(s);
     write!(to, " {} {}", walked.at, walked.packets)?;
     match walked.stopped {
-        None => write!(to, " 0"),
+        None => write!(to, " {}", 0u8),
         Some(unread) => write!(to, " {} {}", u8::from(unread.refusal), unread.place),
     }
 }
@@ -62,8 +67,8 @@ pub(crate) fn say_record<W: Write>(to: &mut W, s: &[u8]) -> io::Result<()> {
     match record::read_record(s) {
         Ok(r) => write!(
             to,
-            " record {} {} {} {} {} {}",
-            r.station, r.apid, r.units, r.packets, r.missing, r.broken
+            " {} {} {} {} {} {} {}",
+            "record", r.station, r.apid, r.units, r.packets, r.missing, r.broken
         ),
         Err(refusal) => say_refused(to, u8::from(refusal)),
     }
@@ -71,11 +76,11 @@ pub(crate) fn say_record<W: Write>(to: &mut W, s: &[u8]) -> io::Result<()> {
 
 fn say_file<W: Write>(to: &mut W, s: &[u8]) -> io::Result<()> {
     match record::read_record_file(s) {
-        Ok(n) => write!(to, " records {n}"),
+        Ok(n) => write!(to, " {} {n}", "records"),
         Err(fault) => {
             say_refused(to, u8::from(Refusal::from(fault)))?;
             match fault {
-                FileFault::Impossible(index) => write!(to, " at {index}"),
+                FileFault::Impossible(index) => write!(to, " {} {index}", "at"),
                 FileFault::Ragged => Ok(()),
             }
         }

@@ -1,9 +1,10 @@
-// What is told of several cases: a refusal and octets, each with a blank before it; and the front of a slice.
+// What is told of several cases: a refusal and octets, each with a blank before it; and the front of a slice. The blank before
+// a word is a piece of output by itself, in all cases.
 use std::io;
 use std::io::Write;
 
 pub(crate) fn say_refused<W: Write>(to: &mut W, number: u8) -> io::Result<()> {
-    write!(to, " refused {number}")
+    write!(to, " {} {number}", "refused")
 }
 
 pub(crate) fn say_octets<W: Write>(to: &mut W, s: &[u8]) -> io::Result<()> {

@@ -17,10 +17,10 @@ pub(crate) fn fill_content(content: &mut [u8]) {
 
 // The first 24 octets of the output, the last of the n that were written, and the next: so the output is whole, and n stands beside it.
 pub(crate) fn say_output<W: Write>(to: &mut W, out: &[u8], n: usize) -> io::Result<()> {
-    write!(to, " output")?;
+    write!(to, " {}", "output")?;
     say_octets(to, front(out, 24))?;
     if n > 0 {
-        write!(to, " end")?;
+        write!(to, " {}", "end")?;
         say_octets(to, &[octet_at(out, n - 1), octet_at(out, n)])?;
     }
     Ok(())
@@ -68,7 +68,7 @@ pub(crate) fn say_writing<W: Write>(
     let mut out = [0xA5; 65544];
     match write(rest_of(line, 6), n, content, &mut out) {
         Ok(n) => {
-            write!(to, " wrote {n}")?;
+            write!(to, " {} {n}", "wrote")?;
             say_output(to, &out, n)
         }
         Err(refusal) => {

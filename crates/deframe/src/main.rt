@@ -2,7 +2,7 @@
 // that is open for writing. Where reading or writing fails it says so on standard error, and ends with status 1.
 #![tactic(auto)]
 
-ghost use Rattle.std.specs.Prelude.{◌≤◌, length};
+ghost use Rattle.std.specs.Prelude.{◌≤◌, length, IfOk};
 ghost use Rattle.telling.specs.Lines.{line_room};
 
 use ending::{Ending, Failure};
@@ -14,6 +14,21 @@ use telling::{LINE_ROOM, Progress};
 
 // Where the packets go, by the name that the system gives descriptor 3.
 const PACKETS: &str = "/proc/self/fd/3";
+
+// Reads until the room is full or the input ends, and answers how many octets came (as in list).
+fn read_full<R: Read>(input: &mut R, room: &mut [u8]) -> io::Result<usize>
+    ensures { IfOk result (λ n. n ≤ length room.new) }
+{
+    let mut done = 0;
+    while done < room.len() {
+        let count = input.read(&mut room[done..])?;
+        if count == 0 {
+            break;
+        }
+        done += count;
+    }
+    Ok(done)
+}
 
 // An open place for packets. The first file that is opened takes the number of a standard descriptor that is closed, so two others are opened
 // before it, which can't be written.
@@ -96,17 +111,23 @@ fn run<F: Files, R: Read, W: Write>(
 ) -> Result<(), Failure> {
     // Room for one octet more than a frame file has, so that a longer one shows.
     let mut file: [u8; 1048577] = Default::default();
-    let room = file.len();
-    let count = io::copy(&mut input.take(room as u64), &mut &mut file[..]).map_err(Failure::Input)?;
+    let count = read_full(input, &mut file).map_err(Failure::Input)?;
     // The buffer that the unfinished piece lives in.
     let mut piece: [u8; 8192] = Default::default();
     // The most octets of packets that a frame can ask room for.
     let mut out: [u8; 10238] = Default::default();
     // Some lines of the text at a time.
     let mut text: [u8; 65536] = Default::default();
-    let read = &file[..room.min(count as usize)];
     *packets = open_packets(rt);
-    deframe(read, &mut piece, &mut out, &mut text, packets, output).map_err(Failure::Output)
+    deframe(
+        &file[..count],
+        &mut piece,
+        &mut out,
+        &mut text,
+        packets,
+        output,
+    )
+    .map_err(Failure::Output)
 }
 
 // What failed of the packets is told first. The status is that of the text, if that failed too.

@@ -2,22 +2,37 @@
 // standard error, and ends with status 1.
 #![tactic(auto)]
 
+ghost use Rattle.std.specs.Prelude.{◌≤◌, length, IfOk};
+
 use ending::{Ending, Failure};
 use listing::{LONGEST, MOST_LISTED};
 use std::io;
 use std::io::{Read, Write};
 
+// Reads until the room is full or the input ends, and answers how many octets came. Each read is lent all the room that is left, so that nothing is lost of an input
+// that comes in messages; `io::copy` of std reads through 8,192 octets. No contract tells what an input gives, so this is no public function, and each program has it.
+fn read_full<R: Read>(input: &mut R, room: &mut [u8]) -> io::Result<usize>
+    ensures { IfOk result (λ n. n ≤ length room.new) }
+{
+    let mut done = 0;
+    while done < room.len() {
+        let count = input.read(&mut room[done..])?;
+        if count == 0 {
+            break;
+        }
+        done += count;
+    }
+    Ok(done)
+}
+
 // Lists what the input gives. Input and output are handed over once in each program, so they are two parameters.
 fn run<R: Read, W: Write>(input: &mut R, output: &mut W) -> Result<(), Failure> {
-    // Room for one octet more than is listed, so that a longer recording shows. The copy into it is three lines of std in each program, whose rooms differ.
+    // Room for one octet more than is listed, so that a longer recording shows.
     let mut recording: [u8; LONGEST + 1] = Default::default();
-    let room = recording.len();
-    let count = io::copy(&mut input.take(room as u64), &mut &mut recording[..]).map_err(
-        Failure::Input,
-    )?;
+    let count = read_full(input, &mut recording).map_err(Failure::Input)?;
     // Room for every text: the law `room` of the crate listing says that none is longer.
     let mut text: [u8; MOST_LISTED] = Default::default();
-    let listed = listing::list_recording(&recording[..room.min(count as usize)], &mut text);
+    let listed = listing::list_recording(&recording[..count], &mut text);
     output
         .write_all(listing::written(listed, &text))
         .map_err(Failure::Output)

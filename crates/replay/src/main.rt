@@ -2,12 +2,27 @@
 // writing fails it says so on standard error, and ends with status 1.
 #![tactic(auto)]
 
-ghost use Rattle.std.specs.Prelude.{◌≤◌, length};
+ghost use Rattle.std.specs.Prelude.{◌≤◌, length, IfOk};
 ghost use Rattle.telling.specs.Lines.{line_room};
 
 use ending::{Ending, Failure};
 use std::io;
 use std::io::{Read, Write};
+
+// Reads until the room is full or the input ends, and answers how many octets came (as in list).
+fn read_full<R: Read>(input: &mut R, room: &mut [u8]) -> io::Result<usize>
+    ensures { IfOk result (λ n. n ≤ length room.new) }
+{
+    let mut done = 0;
+    while done < room.len() {
+        let count = input.read(&mut room[done..])?;
+        if count == 0 {
+            break;
+        }
+        done += count;
+    }
+    Ok(done)
+}
 
 // Replays the run file, and writes its text chunk by chunk.
 fn replay<W: Write>(
@@ -32,16 +47,14 @@ fn replay<W: Write>(
 fn run<R: Read, W: Write>(input: &mut R, output: &mut W) -> Result<(), Failure> {
     // Room for one octet more than a run file has, so that a longer one shows.
     let mut run: [u8; 1048577] = Default::default();
-    let room = run.len();
-    let count = io::copy(&mut input.take(room as u64), &mut &mut run[..]).map_err(Failure::Input)?;
+    let count = read_full(input, &mut run).map_err(Failure::Input)?;
     // The pool: 64 blocks of 256 octets.
     let mut pool = [0; 16384];
     // The most output space that a call gets.
     let mut out: [u8; 131072] = Default::default();
     // A chunk of the text at a time.
     let mut text: [u8; 65536] = Default::default();
-    let read = &run[..room.min(count as usize)];
-    replay(read, &mut pool, &mut out, &mut text, output).map_err(Failure::Output)
+    replay(&run[..count], &mut pool, &mut out, &mut text, output).map_err(Failure::Output)
 }
 
 fn main(rt: HostRuntime) -> Ending {
