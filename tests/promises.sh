@@ -83,12 +83,12 @@ arms() {
 # but who has the types has it. A `TryFrom` would be printed as what no arm is named.
 conversions() {
     awk "$snake"'
-        /^ *impl(<[^>]*>)? ([A-Za-z0-9_]+::)*(Try)?From</ {
+        /^ *impl(<.*>)? ([A-Za-z0-9_]+::)*(Try)?From</ {
             head = $0
             while (head !~ /\{/ && (getline more) > 0) head = head " " more
             crate = FILENAME; sub(/^crates\//, "", crate); sub(/\/.*/, "", crate)
             how = head ~ /TryFrom</ ? "_try_from_" : "_from_"
-            sub(/^ *impl(<[^>]*>)? ([A-Za-z0-9_]+::)*(Try)?From</, "", head); sub(/ *(where .*)?\{.*/, "", head)
+            sub(/^ *impl(<.*>)? ([A-Za-z0-9_]+::)*(Try)?From</, "", head); sub(/ *(where .*)?\{.*/, "", head)
             at = index(head, "> for "); from = substr(head, 1, at - 1); to = substr(head, at + 6)
             sub(/<.*/, "", to); sub(/<.*/, "", from)
             print crate "\t" from "\t" to "\t" crate "::" snake(to) how snake(from)
