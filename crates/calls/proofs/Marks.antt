@@ -19,6 +19,7 @@ use Rattle.marks.proofs.Matched.{Matched, matched, sum_set, matching_freed, matc
 use Rattle.lane.specs.declared.Lane.{Lane}
 use Rattle.std.specs.Prelude.{Ok, Err}
 use Rattle.grouping.specs.Steps.{Outcome}
+use Rattle.grouping.specs.declared.Refused.TheVariants as refused
 use Rattle.grouping.specs.declared.Step.TheVariants as step
 use Rattle.lane.specs.Lane.{held, fine}
 use Rattle.lane.proofs.Fine.{is_fine, none_held}
@@ -55,7 +56,8 @@ module _ (marks : List ℕ) (i : ℕ) (l : Lane) where
 
   pub marks_length : (d : Outcome) → length (marks_after marks i l d) ≡ length marks
   unfolding marks_after
-  marks_length (Err r) = refl
+  marks_length (Err (refused.Unread u)) = refl
+  marks_length (Err (refused.Untaken r)) = refl
   marks_length (Ok step.Repeat) = refl
   marks_length (Ok (step.Stray a)) = released_length
   marks_length (Ok (step.Hold a on n)) = grown_length on n

@@ -163,7 +163,8 @@ module _ (s : State) (i : ℕ) (p pool out : List ℕ) where
   pub refused_so : (e : Refused) → Err e ≡ packet_step s i p (length pool) (length out)
       → (record { answer = Err e; state = s } ≡ taking s i p (length pool) (length out)) × (pool ≡ taking_pool s i p (length out) pool) × (out ≡ taking_out s i p pool out)
   unfolding taking taking_pool taking_out lane_after marks_after pool_after out_after
-  refused_so e ed = rw (← ed) (ap (λ (t : State). let a : Answered = record { answer = Err e; state = t } in a) (same_state s i), refl, refl)
+  refused_so (refused.Unread u) ed = rw (← ed) (ap (λ (t : State). let a : Answered = record { answer = Err (refused.Unread u); state = t } in a) (same_state s i), refl, refl)
+  refused_so (refused.Untaken r) ed = rw (← ed) (ap (λ (t : State). let a : Answered = record { answer = Err (refused.Untaken r); state = t } in a) (same_state s i), refl, refl)
 
 -- the answer tells what the step does
 step_told : (d : Outcome) → told (answer_of d) ≡ telling d

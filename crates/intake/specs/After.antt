@@ -9,6 +9,7 @@ use Rattle.pool.specs.Octets.{stored, gathered}
 use Rattle.lane.specs.declared.Settings.{Settings}
 use Rattle.lane.specs.declared.Lane.{Lane}
 use Rattle.grouping.specs.declared.Refused.{Refused}
+use Rattle.grouping.specs.declared.Refused.TheVariants as refused
 use Rattle.grouping.specs.declared.Step.{Step}
 use Rattle.grouping.specs.declared.Step.TheVariants as step
 use Rattle.lane.specs.Lane.{closed, held, credit_of}
@@ -61,7 +62,8 @@ grown marks i l true n = granted marks (mark i (held l)) (blocks_for n - held l)
 grown marks i l false n = granted (released_from marks i l) (mark i 0) (blocks_for n)
 
 unfoldable pub marks_after : List ℕ → ℕ → Lane → Outcome → List ℕ
-marks_after marks i l (Err r) = marks
+marks_after marks i l (Err (refused.Unread u)) = marks
+marks_after marks i l (Err (refused.Untaken r)) = marks
 marks_after marks i l (Ok step.Repeat) = marks
 marks_after marks i l (Ok (step.Stray a)) = released_from marks i l
 marks_after marks i l (Ok (step.Hold a on n)) = grown marks i l on n
