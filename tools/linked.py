@@ -10,6 +10,8 @@ LIBRARIES = ('octets refusal putting packet reading marks record text adler walk
              'runfile lanes deframing replaying').split()
 FUNCTIONS = open('crates/entries/specs/Functions.antt').read()
 OWN = re.compile(r"Rattle\.(\w+)\.proofs\.(.+)\.Symbol$")
+# What compares and prints a `Found` calls these two of the `Result` in it. No function of `Public` does, so no build is asked for them.
+UNASKED = {'walk': ('ResultPartialEq_eq', 'ResultDebug_fmt')}
 
 
 def of_library(symbol):
@@ -23,9 +25,14 @@ def word(function):
     return function.replace('.', '_')
 
 
+def link(library):
+    """The toolchain's module of the library's table, and of the laws that its functions' code is there."""
+    return open(f'{GENERATED}/{library}/Rattle-{library}-proofs/TheLink.antt').read()
+
+
 def called(library):
     """The modules of the symbols that the library calls of other crates, in the order of its table."""
-    text = open(f'{GENERATED}/{library}/Rattle-{library}-proofs/TheLink.antt').read()
+    text = link(library)
     modules = {m[2] or 'Symbol': m[1].replace('Rattle.io.below', 'Rattle.std.below') for m in re.finditer(r"^use (Rattle\.\S+\.Symbol)(?: as (\S+))?$", text, re.M)}
     below = re.search(r"^Below =(.*?)\n\n", text, re.M | re.S)[1]
     return [modules[it] for it in re.findall(r"Bool\.true (Symbol\S*)\.code", below)]
@@ -38,38 +45,64 @@ def name(symbol):
 
 
 CALLED = {it: called(it) for it in LIBRARIES}
+for library, unasked in UNASKED.items():
+    if not set(unasked) <= set(map(name, CALLED[library])):
+        sys.exit(f'{library} does not call all of {", ".join(unasked)}')
+ASKED = {library: [it for it in symbols if name(it) not in UNASKED.get(library, ())] for library, symbols in CALLED.items()}
 TOLD = {it: [] for it in LIBRARIES}
 for library, function in re.findall(r"use Rattle\.(\w+)\.specs\.contracts\.([\w.]+) as \w+", FUNCTIONS):
     TOLD[library].append(function)
-for symbols in CALLED.values():
+for symbols in ASKED.values():
     for library, function in filter(None, map(of_library, symbols)):
         if function not in TOLD[library]:
             TOLD[library].append(function)
 
 
+def by_all(library, function):
+    """That the function's code is there where all that the library calls is: the toolchain's law."""
+    return f'Link.linked-{library}::{function.replace(".", "::")} W here {"calls" if CALLED[library] else "tt"}'
+
+
+def by_its_own(library, function):
+    """That the function's code is there where what it calls directly is, which the toolchain's law names by place: for a library of which not all is asked."""
+    own = function.replace('.', '::')
+    law = re.search(rf"^linked-{library}::{own} =\n.*?\(found-{library}::{own} W h\)(.*?)(?:\n\n|\Z)", link(library), re.M | re.S)[1]
+    facts = []
+    for of_own, place in re.findall(r"\(linked-\w+::(\S+) W h b\)|\bb((?:\.1)*)\.0", law):
+        has_law, it = (TOLD, of_own.replace('::', '.')) if of_own else (ASKED, CALLED[library][place.count('1')])
+        if it not in has_law[library]:
+            sys.exit(f'{library}: {function} calls {it}, of which no law can be cited here')
+        facts.append(f'(has_{word(it)} W here calls)' if of_own else f'calls{".1" * ASKED[library].index(it)}.0')
+    return ' '.join([f'of_{word(function)}.has (in_world W) true (Link.found-{library}::{own} W here)', *facts])
+
+
 def linked(library):
     """The file of a library: its table, what it calls, and that each function's code is there where these are."""
-    calls = CALLED[library]
+    calls = ASKED[library]
     lines = ["-- The crate's code as the table that a program is linked from: wherever it is, and what it calls of other crates is, so is the code of each public function.",
              'use mathlib.Core.Bool.{true}', 'use prog.Linked.{Tree, World, Holds, in_world}', 'use prog.LinkedThreads.{HasT}', f'use Rattle.{library}.proofs.TheLink as Link']
+    if library in UNASKED:
+        lines += [f'use Rattle.{library}.proofs.{it}.TheLink as of_{word(it)}' for it in TOLD[library]]
     lines += [f'use {it} as {name(it)}' for it in calls] + [f'use Rattle.{library}.proofs.{it}.Symbol as own_{word(it)}' for it in TOLD[library]]
     lines += ['', 'pub table : Tree', 'table = Link.table']
     if calls:
-        lines += ['', '-- what it calls of other crates', 'abbrev pub Calls : World → Type 0', 'Calls W =']
+        but = f', but for {" and ".join(UNASKED[library])}, which no function of `Public` runs' if library in UNASKED else ''
+        lines += ['', f'-- what it calls of other crates{but}', 'abbrev pub Calls : World → Type 0', 'Calls W =']
         lines += [f"    {'(' if at else ''}HasT (in_world W) true {name(it)}.code ×" for at, it in enumerate(calls)] + ['    Unit {0}' + ')' * (len(calls) - 1)]
     for it in TOLD[library]:
         lines += ['', f'pub has_{word(it)} : (W : World) → Holds W "{library}" table {"→ Calls W " if calls else ""}→ HasT (in_world W) true own_{word(it)}.code',
-                  'unfolding table', f'has_{word(it)} W here{" calls" if calls else ""} = Link.linked-{library}::{it.replace(".", "::")} W here {"calls" if calls else "tt"}']
+                  'unfolding table', f'has_{word(it)} W here{" calls" if calls else ""} = {(by_its_own if library in UNASKED else by_all)(library, it)}']
     return '\n'.join(lines) + '\n'
 
 
-STD = {name(it): it for symbols in CALLED.values() for it in symbols if not of_library(it)}
+STD = {name(it): it for symbols in ASKED.values() for it in symbols if not of_library(it)}
 
 
 def believed():
     """What a build is: the tables of the libraries, and the code that they call of the standard library."""
     lines = ["-- A build of the repository, as the toolchain links one: the crates' tables of code are in it, under their names, and so is the code of each function of the",
-             "-- standard library that they call, whose own table can't be named here. `linked` is the machine of it.", 'use Rattle.std.specs.Prelude.{true}',
+             "-- standard library that they call, but for two that no function of `Public` runs; that library's own table can't be named here. `linked` is the machine of it.",
+             'use Rattle.std.specs.Prelude.{true}',
              'use prog.Linked.{World, Holds, in_world}', 'use prog.LinkedThreads.{HasT, tie_t}', 'use prog.Routine.{Env}']
     lines += [f'use {STD[it]} as {it}' for it in sorted(STD)] + [f'use Rattle.{it}.proofs.Linked as the_{it}' for it in LIBRARIES]
     lines += ['', 'pub record Built (W : World) : Type 0 where'] + [f'  pub {it}_table : Holds W "{it}" the_{it}.table' for it in LIBRARIES]
@@ -79,7 +112,7 @@ def believed():
 
 
 def has(library, function):
-    return f'the_{library}.has_{word(function)} W b.{library}_table' + (f' {library}_calls' if CALLED[library] else '')
+    return f'the_{library}.has_{word(function)} W b.{library}_table' + (f' {library}_calls' if ASKED[library] else '')
 
 
 def built():
@@ -89,8 +122,8 @@ def built():
     lines += [f'use Rattle.{it}.proofs.Linked as the_{it}' for it in LIBRARIES]
     lines += ['use Rattle.entries.specs.Exported as name', 'use Rattle.entries.specs.Exported.{Name}', 'use Rattle.entries.specs.Functions as public',
               'use Rattle.entries.specs.Functions.{Public, the_entry, function}', 'use Rattle.entries.specs.Built.{Built}', '', 'module _ (W : World) (b : Built W) where']
-    for library in filter(CALLED.get, LIBRARIES):
-        facts = [has(*of_library(it)) if of_library(it) else f'b.{name(it)}_code' for it in CALLED[library]]
+    for library in filter(ASKED.get, LIBRARIES):
+        facts = [has(*of_library(it)) if of_library(it) else f'b.{name(it)}_code' for it in ASKED[library]]
         lines += [f'  {library}_calls : the_{library}.Calls W', f'  {library}_calls ='] + [f'      ({it},' for it in facts]
         lines[-1] += ' tt' + ')' * len(facts)
         lines.append('')
@@ -105,7 +138,6 @@ def built():
     return '\n'.join(lines) + '\n'
 
 
-for library in LIBRARIES:
-    open(f'crates/{library}/proofs/Linked.antt', 'w').write(linked(library))
-open('crates/entries/specs/Built.antt', 'w').write(believed())
-open('crates/entries/proofs/Built.antt', 'w').write(built())
+FILES = {f'crates/{it}/proofs/Linked.antt': linked(it) for it in LIBRARIES} | {'crates/entries/specs/Built.antt': believed(), 'crates/entries/proofs/Built.antt': built()}
+for path, text in FILES.items():
+    open(path, 'w').write(text)

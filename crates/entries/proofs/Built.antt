@@ -288,32 +288,26 @@ module _ (W : World) (b : Built W) where
     (
       b.OptionPartialEq_eq_code,
       (
-        b.ResultPartialEq_eq_code,
+        b.UsizePartialEq_eq_code,
         (
-          b.UsizePartialEq_eq_code,
+          b.OptionDebug_fmt_code,
           (
-            b.OptionDebug_fmt_code,
+            b.Formatter_derived_fields2_code,
             (
-              b.ResultDebug_fmt_code,
+              b.Formatter_derived_fields3_code,
               (
-                b.Formatter_derived_fields2_code,
+                b.UsizeDebug_fmt_code,
                 (
-                  b.Formatter_derived_fields3_code,
+                  the_packet.has_PacketDebug_fmt W b.packet_table packet_calls,
                   (
-                    b.UsizeDebug_fmt_code,
+                    the_packet.has_PacketPartialEq_eq W b.packet_table packet_calls,
                     (
-                      the_packet.has_PacketDebug_fmt W b.packet_table packet_calls,
+                      the_packet.has_UnreadDebug_fmt W b.packet_table packet_calls,
                       (
-                        the_packet.has_PacketPartialEq_eq W b.packet_table packet_calls,
+                        the_packet.has_UnreadPartialEq_eq W b.packet_table packet_calls,
                         (
-                          the_packet.has_UnreadDebug_fmt W b.packet_table packet_calls,
-                          (
-                            the_packet.has_UnreadPartialEq_eq W b.packet_table packet_calls,
-                            (
-                              the_packet.has_size_of W b.packet_table packet_calls,
-                              (the_reading.has_read_packet W b.reading_table reading_calls, tt),
-                            ),
-                          ),
+                          the_packet.has_size_of W b.packet_table packet_calls,
+                          (the_reading.has_read_packet W b.reading_table reading_calls, tt),
                         ),
                       ),
                     ),

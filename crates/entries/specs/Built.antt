@@ -1,5 +1,5 @@
 -- A build of the repository, as the toolchain links one: the crates' tables of code are in it, under their names, and so is the code of each function of the
--- standard library that they call, whose own table can't be named here. `linked` is the machine of it.
+-- standard library that they call, but for two that no function of `Public` runs; that library's own table can't be named here. `linked` is the machine of it.
 use Rattle.std.specs.Prelude.{true}
 use prog.Linked.{World, Holds, in_world}
 use prog.LinkedThreads.{HasT, tie_t}
@@ -35,9 +35,7 @@ use Rattle.std.proofs.option.Option.unwrap_or.Symbol as Option_unwrap_or
 use Rattle.std.proofs.cmp.Ordering.and_eq.Symbol as Ordering_and_eq
 use Rattle.std.proofs.prelude.RangeToUsizeSliceIndexRefSlice.pick.Symbol as RangeToUsizeSliceIndexRefSlice_pick
 use Rattle.std.proofs.prelude.RefArrayTryFromRefSlice.try_from.Symbol as RefArrayTryFromRefSlice_try_from
-use Rattle.std.proofs.prelude.ResultDebug.fmt.Symbol as ResultDebug_fmt
 use Rattle.std.proofs.prelude.ResultFromResidualErrResidual.from_residual.Symbol as ResultFromResidualErrResidual_from_residual
-use Rattle.std.proofs.prelude.ResultPartialEq.eq.Symbol as ResultPartialEq_eq
 use Rattle.std.proofs.prelude.ResultTry.branch.Symbol as ResultTry_branch
 use Rattle.std.proofs.result.Result.map.Symbol as Result_map
 use Rattle.std.proofs.result.Result.map_err.Symbol as Result_map_err
@@ -169,9 +167,7 @@ pub record Built (W : World) : Type 0 where
   pub Ordering_and_eq_code : HasT (in_world W) true Ordering_and_eq.code
   pub RangeToUsizeSliceIndexRefSlice_pick_code : HasT (in_world W) true RangeToUsizeSliceIndexRefSlice_pick.code
   pub RefArrayTryFromRefSlice_try_from_code : HasT (in_world W) true RefArrayTryFromRefSlice_try_from.code
-  pub ResultDebug_fmt_code : HasT (in_world W) true ResultDebug_fmt.code
   pub ResultFromResidualErrResidual_from_residual_code : HasT (in_world W) true ResultFromResidualErrResidual_from_residual.code
-  pub ResultPartialEq_eq_code : HasT (in_world W) true ResultPartialEq_eq.code
   pub ResultTry_branch_code : HasT (in_world W) true ResultTry_branch.code
   pub Result_map_code : HasT (in_world W) true Result_map.code
   pub Result_map_err_code : HasT (in_world W) true Result_map_err.code
