@@ -46,7 +46,7 @@ def name(symbol):
 
 CALLED = {it: called(it) for it in LIBRARIES}
 for library, unasked in UNASKED.items():
-    if not set(unasked) <= set(map(name, CALLED[library])):
+    if not set(unasked) <= set(map(name, CALLED.get(library, ()))):
         sys.exit(f'{library} does not call all of {", ".join(unasked)}')
 ASKED = {library: [it for it in symbols if name(it) not in UNASKED.get(library, ())] for library, symbols in CALLED.items()}
 TOLD = {it: [] for it in LIBRARIES}
@@ -66,7 +66,7 @@ def by_all(library, function):
 def by_its_own(library, function):
     """That the function's code is there where what it calls directly is, which the toolchain's law names by place: for a library of which not all is asked."""
     own = function.replace('.', '::')
-    law = re.search(rf"^linked-{library}::{own} =\n.*?\(found-{library}::{own} W h\)(.*?)(?:\n\n|\Z)", link(library), re.M | re.S)[1]
+    law = re.search(rf"^linked-{library}::{own} =\s.*?\(found-{library}::{own} W h\)(.*?)(?:\n\n|\Z)", link(library), re.M | re.S)[1]
     facts = []
     for of_own, place in re.findall(r"\(linked-\w+::(\S+) W h b\)|\bb((?:\.1)*)\.0", law):
         has_law, it = (TOLD, of_own.replace('::', '.')) if of_own else (ASKED, CALLED[library][place.count('1')])
@@ -74,6 +74,12 @@ def by_its_own(library, function):
             sys.exit(f'{library}: {function} calls {it}, of which no law can be cited here')
         facts.append(f'(has_{word(it)} W here calls)' if of_own else f'calls{".1" * ASKED[library].index(it)}.0')
     return ' '.join([f'of_{word(function)}.has (in_world W) true (Link.found-{library}::{own} W here)', *facts])
+
+
+def but_for(libraries):
+    """Which of what the libraries call no build is asked for, as a clause."""
+    unasked = [it for library in libraries for it in UNASKED.get(library, ())]
+    return f', but for {" and ".join(unasked)}, which no function of `Public` runs' if unasked else ''
 
 
 def linked(library):
@@ -86,8 +92,7 @@ def linked(library):
     lines += [f'use {it} as {name(it)}' for it in calls] + [f'use Rattle.{library}.proofs.{it}.Symbol as own_{word(it)}' for it in TOLD[library]]
     lines += ['', 'pub table : Tree', 'table = Link.table']
     if calls:
-        but = f', but for {" and ".join(UNASKED[library])}, which no function of `Public` runs' if library in UNASKED else ''
-        lines += ['', f'-- what it calls of other crates{but}', 'abbrev pub Calls : World → Type 0', 'Calls W =']
+        lines += ['', f'-- what it calls of other crates{but_for([library])}', 'abbrev pub Calls : World → Type 0', 'Calls W =']
         lines += [f"    {'(' if at else ''}HasT (in_world W) true {name(it)}.code ×" for at, it in enumerate(calls)] + ['    Unit {0}' + ')' * (len(calls) - 1)]
     for it in TOLD[library]:
         lines += ['', f'pub has_{word(it)} : (W : World) → Holds W "{library}" table {"→ Calls W " if calls else ""}→ HasT (in_world W) true own_{word(it)}.code',
@@ -101,7 +106,7 @@ STD = {name(it): it for symbols in ASKED.values() for it in symbols if not of_li
 def believed():
     """What a build is: the tables of the libraries, and the code that they call of the standard library."""
     lines = ["-- A build of the repository, as the toolchain links one: the crates' tables of code are in it, under their names, and so is the code of each function of the",
-             "-- standard library that they call, but for two that no function of `Public` runs; that library's own table can't be named here. `linked` is the machine of it.",
+             f"-- standard library that they call{but_for(LIBRARIES)}. Its own table can't be named here. `linked` is the machine of it.",
              'use Rattle.std.specs.Prelude.{true}',
              'use prog.Linked.{World, Holds, in_world}', 'use prog.LinkedThreads.{HasT, tie_t}', 'use prog.Routine.{Env}']
     lines += [f'use {STD[it]} as {it}' for it in sorted(STD)] + [f'use Rattle.{it}.proofs.Linked as the_{it}' for it in LIBRARIES]

@@ -1,5 +1,5 @@
 -- A build of the repository, as the toolchain links one: the crates' tables of code are in it, under their names, and so is the code of each function of the
--- standard library that they call, but for two that no function of `Public` runs; that library's own table can't be named here. `linked` is the machine of it.
+-- standard library that they call, but for ResultPartialEq_eq and ResultDebug_fmt, which no function of `Public` runs. Its own table can't be named here. `linked` is the machine of it.
 use Rattle.std.specs.Prelude.{true}
 use prog.Linked.{World, Holds, in_world}
 use prog.LinkedThreads.{HasT, tie_t}
